@@ -1,0 +1,4 @@
+pub mod Addresses
+pub mod Reads
+pub mod Meaning
+pub mod Writes

@@ -1,0 +1,3 @@
+// The records of the shared tables.
+pub mod entries;
+pub mod scanner;

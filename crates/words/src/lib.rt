@@ -1,0 +1,3 @@
+// A word of the shared tables, told apart and encoded.
+pub mod told;
+pub mod word;
