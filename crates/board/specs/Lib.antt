@@ -1,0 +1,6 @@
+pub mod Numbers
+pub mod Kinds
+pub mod Begins
+pub mod Lays
+pub mod Laws
+pub mod Phases
