@@ -1,0 +1,4 @@
+pub mod Index
+pub mod Texts
+pub mod Opened
+pub mod Apart

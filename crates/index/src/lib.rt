@@ -1,0 +1,2 @@
+// Reads session files, which hold order texts behind an index.
+pub mod file;

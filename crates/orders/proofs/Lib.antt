@@ -1,0 +1,6 @@
+pub mod Counted
+pub mod DigitLaws
+pub mod Digits
+pub mod NumberLaws
+pub mod OrderLaws
+pub mod Wordings
