@@ -1,17 +1,17 @@
 // Session files: the index, its check, and the order texts that it names.
 ghost use mathlib.Core.Path.{_≡_};
 ghost use mathlib.Core.List.{[]};
-ghost use Prim.Native.Nat.{_+_, _^_, _<_, _≤_};
+ghost use Prim.Native.Nat.{_+_, _^_, _<_};
 ghost use lib.ListN.{length, getD};
 ghost use Rattle.std.specs.Vec.{made};
-ghost use Rattle.index.specs.Index.{number-at, count-of, offset-of, end-of, all-lie};
+ghost use Rattle.index.specs.Index.{number-at, offset-of, end-of, all-lie};
 ghost use Rattle.index.specs.Apart.{Apart};
 ghost use Rattle.index.specs.Texts.{texts};
 ghost use Rattle.index.specs.Opened.{texts-of, said};
 use refusals::refusal::Refusal;
 
 // The most bytes that a session file has.
-const MOST: usize = 16384;
+pub const MOST: usize = 16384;
 
 // The byte at `at`, or 0 past the end.
 fn byte_at(bytes: &[u8], at: usize) -> u8

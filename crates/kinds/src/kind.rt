@@ -4,7 +4,7 @@ ghost use Prim.Native.Nat.{ℕ};
 ghost use Rattle.kinds.specs.Plans.{Plan, Opens};
 
 // The two words of a tray as its kind opens it.
-#[derive(Clone, Copy, PartialEq, Eq, Debug)]
+#[derive(Clone, Copy)]
 pub struct Opening {
     pub first: u32,
     pub second: u32,

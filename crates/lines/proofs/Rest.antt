@@ -1,11 +1,10 @@
 -- Bytes written at the front of `&mut out[at..]`, seen from the whole output.
-use mathlib.Core.Path.{_≡_, refl, sym, ap, _∙_}
+use mathlib.Core.Path.{_≡_, refl, ap, _∙_}
 use mathlib.Core.Bool.{Bool, true, false, cond}
-use mathlib.Core.List.{List, [], _∷_, _++_, append-nil}
+use mathlib.Core.List.{List, _++_, append-nil}
 use Prim.Native.Nat.{ℕ, _+_, _-_, _≤_}
 use native.Mathlib.Omega.{arith}
 use borrow.Rule.Slice.PartMut.{putMid}
-use lib.Dec.{leb}
 use lib.ListN.{length, take, drop, length-drop}
 use Rattle.std.proofs.shelf.Lists.{drop-all, drop-drop, take-rest, take-append-drop}
 use Rattle.std.proofs.shelf.Ways.{tells}

@@ -6,12 +6,13 @@ ghost use Rattle.std.specs.Written.{decimal};
 
 // The first `len` of the bytes. A number of 32 bits has at most ten digits.
 #[derive(Clone, Copy)]
-pub struct Digits {
-    pub bytes: [u8; 10],
-    pub len: usize,
+pub(crate) struct Digits {
+    pub(crate) bytes: [u8; 10],
+    pub(crate) len: usize,
 }
 
-pub fn digits_of(n: u32) -> Digits
+// The last digit is put behind those of the number without it.
+pub(crate) fn digits_of(n: u32) -> Digits
     ensures digits { λ r. ⌜ take (r .len) (r .bytes) ≡ decimal n ⌝ }
     ensures bound { λ r. ⌜ r .len ≤ 10 ⌝ }
     ensures long { λ r. ⌜ r .len ≡ length (decimal n) ⌝ }

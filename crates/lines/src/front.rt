@@ -1,6 +1,5 @@
-// Writes at the front of an output, whole or not at all.
+// A text or a line, written at the front of an output, whole or not at all.
 ghost use mathlib.Core.Path.{_≡_};
-ghost use lib.ListN.{length};
 ghost use Rattle.lines.specs.Lines.{line-of};
 ghost use Rattle.lines.specs.Places.{front-end, front-written};
 use crate::measure::line_fits;
@@ -8,7 +7,7 @@ use crate::write::write_bytes;
 use crate::write::write_line;
 use refusals::refusal::Refusal;
 
-pub fn text_at_front(out: &mut [u8], text: &[u8]) -> Result<usize, Refusal>
+pub(crate) fn text_at_front(out: &mut [u8], text: &[u8]) -> Result<usize, Refusal>
     ensures answer { λ r. ⌜ r ≡ front-end (now (out .entry)) (now (text .entry)) ⌝ }
     ensures after { λ _. ⌜ now (out .exit) ≡ front-written (now (out .entry)) (now (text .entry)) ⌝ }
 {
@@ -18,7 +17,7 @@ pub fn text_at_front(out: &mut [u8], text: &[u8]) -> Result<usize, Refusal>
     Ok(write_bytes(out, 0, text))
 }
 
-pub fn line_at_front(out: &mut [u8], first: u32, rest: &[u32]) -> Result<usize, Refusal>
+pub(crate) fn line_at_front(out: &mut [u8], first: u32, rest: &[u32]) -> Result<usize, Refusal>
     ensures answer { λ r. ⌜ r ≡ front-end (now (out .entry)) (line-of first (now (rest .entry))) ⌝ }
     ensures after { λ _. ⌜ now (out .exit) ≡ front-written (now (out .entry)) (line-of first (now (rest .entry))) ⌝ }
 {

@@ -6,7 +6,7 @@ ghost use Rattle.lines.specs.Lines.{line-of};
 use crate::digits::digits_of;
 
 // Takes each number off the room, so that no sum of lengths can wrap.
-pub fn line_fits(room: usize, first: u32, rest: &[u32]) -> bool
+pub(crate) fn line_fits(room: usize, first: u32, rest: &[u32]) -> bool
     ensures { λ r. ⌜ r ≡ leb (length (line-of first (now (rest .entry)))) room ⌝ }
 {
     let head = digits_of(first).len + 1;

@@ -1,4 +1,5 @@
-// Writes into what is left of an output from a place on, whole or not at all: the rest of the output is lent on.
+// A text or a line, written into what is left of an output from a place on, whole or not at all.
+// The rest of the output is lent on to the writers of `front`.
 ghost use mathlib.Core.Path.{_≡_};
 ghost use Prim.Native.Nat.{_≤_};
 ghost use lib.ListN.{length};
@@ -9,7 +10,7 @@ use crate::front::line_at_front;
 use crate::front::text_at_front;
 use refusals::refusal::Refusal;
 
-// Writes the text from `at` on, and answers where it ends.
+// Writes the text from `at` on, and answers where it ends. A text that does not fit stays unwritten.
 pub fn put_text(out: &mut [u8], at: usize, text: &[u8]) -> Result<usize, Refusal>
     ensures answer { λ r. ⌜ r ≡ end-at (now (out .entry)) at (now (text .entry)) ⌝ }
     ensures after { λ _. ⌜ now (out .exit) ≡ written-at (now (out .entry)) at (now (text .entry)) ⌝ }
@@ -22,7 +23,7 @@ pub fn put_text(out: &mut [u8], at: usize, text: &[u8]) -> Result<usize, Refusal
     Ok(at + length)
 }
 
-// Writes the numbers as a line from `at` on, and answers where it ends.
+// Writes the numbers as a line from `at` on, and answers where it ends. A line that does not fit stays unwritten.
 pub fn put_line(out: &mut [u8], at: usize, first: u32, rest: &[u32]) -> Result<usize, Refusal>
     ensures answer { λ r. ⌜ r ≡ end-at (now (out .entry)) at (line-of first (now (rest .entry))) ⌝ }
     ensures after { λ _. ⌜ now (out .exit) ≡ written-at (now (out .entry)) at (line-of first (now (rest .entry))) ⌝ }

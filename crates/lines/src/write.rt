@@ -1,4 +1,4 @@
-// Writes into an output that has room for them.
+// Bytes, numbers and a line, written into an output that has room for them.
 ghost use mathlib.Core.Path.{_≡_};
 ghost use Prim.Native.Nat.{_+_, _≤_};
 ghost use lib.ListN.{length};
@@ -9,7 +9,7 @@ ghost use Rattle.lines.specs.Places.{placed, front-placed};
 use crate::digits::digits_of;
 
 // Writes the bytes at `at`, and answers where they end.
-pub fn write_bytes(out: &mut [u8], at: usize, bytes: &[u8]) -> usize
+pub(crate) fn write_bytes(out: &mut [u8], at: usize, bytes: &[u8]) -> usize
     requires { ⌜ at + length (now bytes) ≤ length (now out) ⌝ }
     ensures answer { λ r. ⌜ r ≡ at + length (now (bytes .entry)) ⌝ }
     ensures after { λ _. ⌜ now (out .exit) ≡ placed (now (out .entry)) at (now (bytes .entry)) ⌝ }
@@ -28,6 +28,7 @@ fn write_number(out: &mut [u8], at: usize, n: u32) -> usize
     write_bytes(out, at, &digits.bytes[0..digits.len])
 }
 
+// Writes a number with a space before it.
 fn write_word(out: &mut [u8], at: usize, n: u32) -> usize
     requires { ⌜ at + length (word-of n) ≤ length (now out) ⌝ }
     ensures answer { λ r. ⌜ r ≡ at + length (word-of n) ⌝ }
@@ -37,7 +38,7 @@ fn write_word(out: &mut [u8], at: usize, n: u32) -> usize
     write_number(out, start, n)
 }
 
-// Writes each number with a space before it.
+// Writes each of the numbers with a space before it.
 fn write_words(out: &mut [u8], mut at: usize, numbers: &[u32]) -> usize
     requires { ⌜ at + length (joined word-of (now numbers)) ≤ length (now out) ⌝ }
     ensures answer { λ r. ⌜ r ≡ at + length (joined word-of (now (numbers .entry))) ⌝ }
@@ -50,7 +51,7 @@ fn write_words(out: &mut [u8], mut at: usize, numbers: &[u32]) -> usize
 }
 
 // Writes the line at the front, and answers its length.
-pub fn write_line(out: &mut [u8], first: u32, rest: &[u32]) -> usize
+pub(crate) fn write_line(out: &mut [u8], first: u32, rest: &[u32]) -> usize
     requires { ⌜ length (line-of first (now rest)) ≤ length (now out) ⌝ }
     ensures answer { λ r. ⌜ r ≡ length (line-of first (now (rest .entry))) ⌝ }
     ensures after { λ _. ⌜ now (out .exit) ≡ front-placed (now (out .entry)) (line-of first (now (rest .entry))) ⌝ }

@@ -11,7 +11,7 @@ use words::told::tell;
 use words::word::Word;
 
 // What a descriptor's result says.
-#[derive(Clone, Copy, PartialEq, Eq, Debug)]
+#[derive(Clone, Copy)]
 pub enum Outcome {
     Undecided,
     Success,

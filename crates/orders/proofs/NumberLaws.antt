@@ -3,13 +3,13 @@ use mathlib.Core.Path.{_≡_, refl, sym, ap, subst, _∙_}
 use mathlib.Core.Bool.{Bool, true, false, cond, _&&_}
 use mathlib.Core.List.{List, [], _∷_, _++_}
 use mathlib.Core.Logic.{inl, inr}
-use Prim.Native.Nat.{ℕ, zero, suc, _+_, _-_, _*_, _^_, _<_, _≤_}
+use Prim.Native.Nat.{ℕ, zero, suc, _+_, _-_, _^_, _<_, _≤_}
 use native.Mathlib.Nat.{add-zero}
 use native.Mathlib.Omega.{arith}
 use lib.Dec.{eqb, leb}
 use lib.ListN.{length, getD, drop, length-append, length-drop}
 use Rattle.std.proofs.shelf.Decimals.{decimal-digit, decimal-value, decimal-some, value-decimal, digits-decimal, first-decimal}
-use Rattle.std.proofs.shelf.Lists.{drop-more, drop-at, drop-all, drop-drop, getD-drop, nil-from-length, getD-append-left}
+use Rattle.std.proofs.shelf.Lists.{drop-more, drop-at, drop-all, drop-drop, getD-drop, getD-append-left}
 use Rattle.std.proofs.shelf.Tests.{and-parts, and-from, both-ways, cond-true, cond-false, eq-eqb, ne-eqb, eqb-true, eqb-false, leb-true, le-leb, cases-lt}
 use Rattle.std.specs.Text.{asciiDigit}
 use Rattle.std.specs.Written.{decimal}
@@ -33,7 +33,7 @@ taken false r x e = let never : _≡_ {A = ℕ} 0 1 = cc in absurd (omega arith)
 decimal-zero : decimal 0 ≡ 48 ∷ []
 decimal-zero = decimal-digit 0 (omega arith)
 
-pub on-ok-sound : {X Y : Type 0} (r : Result X Refusal) (more : X → Result Y Refusal) (y : Y) → on-ok r more ≡ Ok y → (x : X) × (r ≡ Ok x) × (more x ≡ Ok y)
+on-ok-sound : {X Y : Type 0} (r : Result X Refusal) (more : X → Result Y Refusal) (y : Y) → on-ok r more ≡ Ok y → (x : X) × (r ≡ Ok x) × (more x ≡ Ok y)
 on-ok-sound (Ok x) more y e = (x, refl, e)
 on-ok-sound (Err d) more y e = let never : _≡_ {A = ℕ} 0 1 = cc in absurd (omega arith)
 

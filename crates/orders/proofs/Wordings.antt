@@ -10,21 +10,18 @@ use Rattle.std.specs.declared.result.Result.{Result}
 use Rattle.std.specs.declared.result.Result.the-variants.{Ok, Err}
 use Rattle.refusals.specs.declared.refusal.Refusal.{Refusal}
 use Rattle.refusals.specs.declared.refusal.Refusal.the-variants.{Wording}
-use Rattle.orders.specs.declared.number.Number.{Number}
-use Rattle.orders.specs.declared.order.Order.{Order}
 use Rattle.orders.specs.Answered.{on-ok}
 use Rattle.orders.specs.Numbers.{a-number, with-digit, digits-of, number-of, numbers-of}
-use Rattle.orders.specs.Orders.{order-of}
 
 abbrev pub ByWording : {X : Type 0} → Result X Refusal → Type 0
 ByWording (Ok x) = Unit {0}
 ByWording (Err e) = e ≡ Wording
 
-pub of-cond : {X : Type 0} (t : Bool) (r s : Result X Refusal) → ByWording r → ByWording s → ByWording (cond t r s)
+of-cond : {X : Type 0} (t : Bool) (r s : Result X Refusal) → ByWording r → ByWording s → ByWording (cond t r s)
 of-cond true r s p q = p
 of-cond false r s p q = q
 
-pub of-on-ok : {X Y : Type 0} (r : Result X Refusal) (more : X → Result Y Refusal) → ByWording r → ((x : X) → ByWording (more x)) → ByWording (on-ok r more)
+of-on-ok : {X Y : Type 0} (r : Result X Refusal) (more : X → Result Y Refusal) → ByWording r → ((x : X) → ByWording (more x)) → ByWording (on-ok r more)
 of-on-ok (Ok x) more p q = q x
 of-on-ok (Err e) more p q = p
 

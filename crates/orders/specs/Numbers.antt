@@ -1,5 +1,5 @@
 -- The numbers in a text, byte by byte.
-use mathlib.Core.Bool.{Bool, cond, _&&_}
+use mathlib.Core.Bool.{cond, _&&_}
 use mathlib.Core.List.{List, [], _∷_}
 use Prim.Native.Nat.{ℕ, zero, suc, _+_, _-_, _*_, _^_}
 use lib.Dec.{eqb, leb, ltb}
@@ -12,9 +12,11 @@ use Rattle.refusals.specs.declared.refusal.Refusal.the-variants.{Wording}
 use Rattle.orders.specs.declared.number.Number.{Number}
 use Rattle.orders.specs.Answered.{on-ok}
 
+-- the number v, which ends at a place of the text
 abbrev pub a-number : ℕ → ℕ → Number
 a-number v end = record { value = v; end = end }
 
+-- v with one more digit, if that fits 32 bits
 abbrev pub with-digit : ℕ → ℕ → Result ℕ Refusal
 with-digit v b = cond (ltb (v * 10 + (b - 48)) (2 ^ 32)) (Ok (v * 10 + (b - 48))) (Err Wording)
 

@@ -13,7 +13,7 @@ use Rattle.orders.specs.declared.order.Order.the-variants.{LayQueue, LayStack,
 use Rattle.orders.specs.Answered.{on-ok}
 use Rattle.orders.specs.Numbers.{numbers-of}
 
--- R and C take no number, N takes the crew
+-- by the codes of the letters: R and C take no number, N takes the crew
 abbrev pub by-letter : ℕ → List ℕ → Result Order Refusal
 by-letter letter text =
     cond (eqb letter 82) (on-ok (numbers-of 0 text 1) λ _. Ok LayQueue)
@@ -21,6 +21,7 @@ by-letter letter text =
     (cond (eqb letter 78) (on-ok (numbers-of 1 text 1) λ ns. Ok (Start (getD ns 0 0)))
     (Err Wording)))
 
+-- the letter comes first
 abbrev pub order-of : List ℕ → Result Order Refusal
 order-of [] = Err Wording
 order-of (letter ∷ rest) = by-letter letter (letter ∷ rest)

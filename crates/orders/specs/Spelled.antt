@@ -1,6 +1,6 @@
 -- How an order is spelled.
 use mathlib.Core.Path.{_≡_}
-use mathlib.Core.List.{List, [], _∷_, _++_}
+use mathlib.Core.List.{List, [], _∷_}
 use Prim.Native.Nat.{ℕ, _^_, _<_}
 use Rattle.std.specs.Written.{decimal}
 use Rattle.std.specs.shelf.Lists.{All, joined}

@@ -8,9 +8,9 @@ use refusals::refusal::Refusal;
 
 // A number that was read, and the place in the text where it ends.
 #[derive(Clone, Copy)]
-pub struct Number {
-    pub value: u32,
-    pub end: usize,
+pub(crate) struct Number {
+    pub(crate) value: u32,
+    pub(crate) end: usize,
 }
 
 // The value with one more digit, if that fits 32 bits.
@@ -26,7 +26,7 @@ fn add_digit(value: u32, digit: u8) -> Result<u32, Refusal>
     }
 }
 
-// All the digits that stand from `from` on.
+// Reads all the digits that stand from `from` on.
 fn read_digits(text: &[u8], from: usize) -> Result<Number, Refusal>
     requires { ⌜ from ≤ length (now text) ⌝ }
     ensures value { λ r. ⌜ r ≡ digits-of 0 from (drop from (now (text .entry))) ⌝ }
@@ -41,8 +41,8 @@ fn read_digits(text: &[u8], from: usize) -> Result<Number, Refusal>
     Ok(Number { value, end })
 }
 
-// One space and a decimal with no leading zero, from `from` on.
-pub fn read_number(text: &[u8], from: usize) -> Result<Number, Refusal>
+// Reads one space and a decimal with no leading zero, from `from` on.
+pub(crate) fn read_number(text: &[u8], from: usize) -> Result<Number, Refusal>
     requires { ⌜ from ≤ length (now text) ⌝ }
     ensures value { λ r. ⌜ r ≡ number-of (now (text .entry)) from ⌝ }
     ensures within { λ r. ⌜ made r (λ n. n .end ≤ length (now (text .entry))) ⌝ }
@@ -60,8 +60,8 @@ pub fn read_number(text: &[u8], from: usize) -> Result<Number, Refusal>
     }
 }
 
-// The numbers from `from` on: exactly K, and nothing after them.
-pub fn read_numbers<const K: usize>(text: &[u8], from: usize) -> Result<[u32; K], Refusal>
+// Reads exactly K numbers from `from` on, with nothing after them.
+pub(crate) fn read_numbers<const K: usize>(text: &[u8], from: usize) -> Result<[u32; K], Refusal>
     requires { ⌜ from ≤ length (now text) ⌝ }
     ensures { λ r. ⌜ r ≡ numbers-of K (now (text .entry)) from ⌝ }
 {

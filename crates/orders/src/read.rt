@@ -8,7 +8,7 @@ use crate::number::read_numbers;
 use crate::order::Order;
 use refusals::refusal::Refusal;
 
-// The numbers stand behind the letter, at the text's start.
+// Reads the numbers that the letter takes. They stand in the text behind the letter.
 fn read_by_letter(letter: char, text: &[u8]) -> Result<Order, Refusal>
     requires { ⌜ 1 ≤ length (now text) ⌝ }
     ensures { λ r. ⌜ r ≡ by-letter letter (now (text .entry)) ⌝ }
@@ -30,6 +30,7 @@ fn read_by_letter(letter: char, text: &[u8]) -> Result<Order, Refusal>
     }
 }
 
+// Reads the order that the text spells. A text that spells none is refused.
 pub fn read_order(text: &[u8]) -> Result<Order, Refusal>
     ensures value { λ r. ⌜ r ≡ order-of (now (text .entry)) ⌝ }
     ensures law { λ r. ⌜ Understood (now (text .entry)) r ⌝ }

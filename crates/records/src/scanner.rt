@@ -3,7 +3,7 @@ ghost use mathlib.Core.Path.{_≡_};
 ghost use Rattle.records.specs.Looks.{look-number};
 
 // What a request asks for.
-#[derive(Clone, Copy, PartialEq, Eq, Debug)]
+#[derive(Clone, Copy, PartialEq, Eq)]
 pub enum Wish {
     Put { tray: u32, parcel: u32 },
     Take { tray: u32 },
@@ -21,7 +21,7 @@ pub enum Look {
 }
 
 // `last` is the number of the last request, 0 before the first, and `heard` the highest number whose acknowledgement was sent.
-#[derive(Clone, Copy, PartialEq, Eq, Debug)]
+#[derive(Clone, Copy)]
 pub struct Scanner {
     pub last: u32,
     pub heard: u32,

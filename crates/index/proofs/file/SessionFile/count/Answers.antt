@@ -1,8 +1,8 @@
-use mathlib.Core.Path.{sym, _∙_}
+use native.Mathlib.Omega.{arith}
 use Rattle.index.specs.Opened.{texts-of}
 use Rattle.index.proofs.Within.{count-within}
 use Rattle.index.proofs.file.SessionFile.count.Needs as need
 
 pub returns : need.returns
 unfolding texts-of
-returns c = record { value = c .number-at .ensures .value ∙ sym (count-within (c .args .self .now .bytes .now)); small = c .number-at .ensures .small }
+returns c = record { value = omega (arith, count-within (c .args .self .now .bytes .now)); small = omega arith }

@@ -1,8 +1,7 @@
-use mathlib.Core.Path.{_≡_, sym, ap, _∙_}
-use Prim.Native.Nat.{_-_, _<_, _≤_}
+use mathlib.Core.Path.{_∙_}
+use Prim.Native.Nat.{_-_}
 use native.Mathlib.Omega.{arith}
-use lib.ListN.{length, take, drop}
-use Rattle.index.specs.Index.{count-of, end-of}
+use lib.ListN.{take, drop}
 use Rattle.index.specs.Opened.{texts-of}
 use Rattle.index.proofs.Within.{count-within, past, cut, there}
 use Rattle.index.proofs.file.SessionFile.text.Needs as need

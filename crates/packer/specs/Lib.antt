@@ -1,0 +1,4 @@
+pub mod Lines
+pub mod Packed
+pub mod Answers
+pub mod Pieces
