@@ -20,7 +20,8 @@ use Rattle.places.specs.Places.{has-place, taken-after}
 use Rattle.kinds.specs.Plans.{Plan, Opens, Opened}
 use Rattle.board.specs.Numbers.{Numbers, fits}
 use Rattle.board.specs.Kinds.{capped, kind-of}
-use Rattle.board.specs.Lays.{Laid, opens-with, opens-tray, lays, numbers-with-node, nodes-with-node, with-nodes, with-nodes-taken, refused}
+use Rattle.board.specs.Lays.{Laid, opens-with, opens-tray, lays, with-nodes, refused}
+use Rattle.board.specs.Takes.{numbers-with-node, nodes-with-node, with-nodes-taken}
 use Rattle.board.specs.Laws.{Fresh, Adds-tray, Laying}
 use Rattle.board.proofs.Kept.{new-digit, old-digit}
 

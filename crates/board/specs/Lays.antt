@@ -9,11 +9,12 @@ use Rattle.std.specs.declared.result.Result.the-variants.{Ok, Err}
 use Rattle.refusals.specs.declared.refusal.Refusal.{Refusal}
 use Rattle.refusals.specs.declared.refusal.Refusal.the-variants.{TableLength, TraysFull, NodesFull}
 use Rattle.records.specs.declared.entries.Node.{Node}
-use Rattle.records.specs.Tables.{Tables, tables, zero-node}
-use Rattle.places.specs.Places.{has-place, taken-after, table-after}
+use Rattle.records.specs.Tables.{Tables, tables}
+use Rattle.places.specs.Places.{has-place}
 use Rattle.kinds.specs.Plans.{Plan}
 use Rattle.board.specs.Numbers.{Numbers, fits}
 use Rattle.board.specs.Kinds.{capped}
+use Rattle.board.specs.Takes.{numbers-with-node, nodes-with-node}
 
 -- what a call answers, and the board and the tables that it leaves
 pub record Laid : Type 0 where
@@ -23,27 +24,6 @@ pub record Laid : Type 0 where
 
 abbrev pub refused : Numbers → Tables → Refusal → Laid
 refused n t why = record { answer = Err why; board = n; tables = t }
-
--- the next node, taken and set to zero
-abbrev pub takes : Numbers → Result ℕ Refusal
-takes n = cond (has-place (n .node-room) (n .nodes-taken)) (Ok (n .nodes-taken + 1)) (Err NodesFull)
-
-abbrev pub with-nodes-taken : Numbers → ℕ → Numbers
-with-nodes-taken n taken = record {
-  trays = n .trays;
-  crew = n .crew;
-  kinds = n .kinds;
-  node-room = n .node-room;
-  nodes-taken = taken;
-  descriptor-room = n .descriptor-room;
-  descriptors-taken = n .descriptors-taken;
-}
-
-abbrev pub numbers-with-node : Numbers → Numbers
-numbers-with-node n = with-nodes-taken n (taken-after (n .node-room) (n .nodes-taken))
-
-abbrev pub nodes-with-node : Numbers → List Node → List Node
-nodes-with-node n nodes = table-after nodes (n .nodes-taken) zero-node
 
 -- one tray more, of this kind
 abbrev pub with-tray : Numbers → ℕ → Numbers

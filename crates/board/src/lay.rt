@@ -1,11 +1,10 @@
 // Laying a tray: it takes the next tray number and is opened by its kind.
 ghost use mathlib.Core.Path.{_≡_};
 ghost use Prim.Native.Nat.{_<_, _≤_};
-ghost use lib.ListN.{length};
 ghost use Rattle.records.specs.Tables.{tables};
 ghost use Rattle.board.specs.Numbers.{numbers, fits};
 ghost use Rattle.board.specs.Laws.{Laying};
-ghost use Rattle.board.specs.Lays.{takes, numbers-with-node, nodes-with-node, lays-kind, lays};
+ghost use Rattle.board.specs.Lays.{lays-kind, lays};
 use crate::board::Board;
 use crate::board::Layout;
 use crate::board::MOST_TRAYS;
@@ -14,7 +13,6 @@ use crate::board::TRAY_WORDS;
 use crate::kinds_laid::LAST_KIND;
 use crate::kinds_laid::with_kind;
 use kinds::kind::TrayKind;
-use places::places::Places;
 use records::entries::Descriptor;
 use records::entries::Node;
 use records::scanner::Scanner;
@@ -35,24 +33,6 @@ impl Board {
             && scanners.len() == SCANNERS
             && nodes.len() == self.node_room as usize
             && descriptors.len() == self.descriptor_room as usize
-    }
-
-    // Takes the next node, set to zero.
-    pub(crate) fn take_node(&mut self, nodes: &mut [Node]) -> Result<u32, Refusal>
-        requires { ⌜ length (now nodes) ≡ now self .«node_room» ⌝ }
-        ensures answer { λ r. ⌜ r ≡ takes (numbers (now (self .entry))) ⌝ }
-        ensures board { λ _. ⌜ numbers (now (self .exit)) ≡ numbers-with-node (numbers (now (self .entry))) ⌝ }
-        ensures table { λ _. ⌜ now (nodes .exit) ≡ nodes-with-node (numbers (now (self .entry))) (now (nodes .entry)) ⌝ }
-    {
-        let taken = self.nodes_taken;
-        let mut places = Places::new(nodes, taken);
-        match places.take(Node::ZERO) {
-            Some(place) => {
-                self.nodes_taken = place;
-                Ok(place)
-            }
-            None => Err(Refusal::NodesFull),
-        }
     }
 }
 

@@ -4,3 +4,4 @@ pub mod board;
 pub mod kinds_laid;
 pub mod lay;
 pub mod start;
+mod take_places;

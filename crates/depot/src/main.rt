@@ -1,4 +1,5 @@
 // The depot program: plays session files, and packs them from lines of order texts.
+use index::file::MOST;
 use packer::fault::PackFault;
 use packer::pack::pack;
 use refusals::texts::RefusalDisplay;
@@ -20,8 +21,7 @@ Order texts:
   N c    start with a crew of c scanners
 ";
 
-// The most bytes that a session file has, and room for the lines of any session.
-const MOST: usize = 16384;
+// Room for the lines of any session.
 
 const ROOM: usize = 131072;
 

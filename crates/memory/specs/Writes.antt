@@ -48,7 +48,7 @@ next-word nodes taken (Some (NextWord n)) w = cond (is-taken (length nodes) take
 abbrev pub nodes-with : List Node → ℕ → ℕ → ℕ → List Node
 nodes-with nodes taken address w = next-word nodes taken (addressed address) w
 
--- the words of the tables, without the descriptors, of which no word depends
+-- the words of the tables, without the descriptors, on which no word depends
 abbrev pub shared : List ℕ → List Node → ℕ → Seen
 shared words nodes taken = record { words = words; nodes = nodes; nodes-taken = taken; descriptors = []; descriptors-taken = 0 }
 

@@ -3,9 +3,7 @@ ghost use Prim.Native.Nat.{_≤_, _<_};
 ghost use lib.ListN.{length};
 ghost use denote.Ref.{name};
 ghost use Rattle.places.specs.Places.{next-place, taken-after, table-after, Taken};
-
-// A word can name no place above this one, so a table never has more.
-const LAST_PLACE: u32 = 4095;
+use words::told::LAST_PLACE;
 
 // A lent table of which the places 1 to `taken` are taken. Place n stands at index n - 1.
 #[derive(Drop)]
@@ -24,7 +22,7 @@ impl<'a, T: Copy> Places<'a, T> {
         Places { table, taken }
     }
 
-    // Takes the next place and writes `value` there; none where the table is full.
+    // Takes the next place and writes `value` there; none where the table is full, or where no word could name the place.
     pub fn take(&mut self, value: T) -> Option<u32>
         ensures answer { λ r. ⌜ r ≡ next-place (length (now (now (self .entry) .table))) (now (self .entry) .taken) ⌝ }
         ensures same { λ _. ⌜ name (now (self .exit) .table) ≡ name (now (self .entry) .table) ⌝ }

@@ -1,1 +1,4 @@
 pub mod Orders
+pub mod Printed
+pub mod Told
+pub mod Shown

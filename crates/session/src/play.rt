@@ -8,6 +8,7 @@ ghost use Rattle.records.specs.Tables.{tables};
 ghost use Rattle.index.specs.Opened.{texts-of};
 ghost use Rattle.board.specs.Numbers.{numbers};
 ghost use Rattle.obey.specs.Obeys.{laid-out};
+ghost use Rattle.session.specs.Laws.{Shows};
 ghost use Rattle.session.specs.Plays.{state, ended, broken, damaged, orders-from, plays, session-of};
 use crate::fault::Played;
 use crate::fault::SessionFault;
@@ -111,6 +112,7 @@ fn play_on(
 pub fn play(bytes: &[u8], out: &mut [u8]) -> Played
     ensures answer { λ r. ⌜ r ≡ session-of (now (bytes .entry)) (now (out .entry)) .answer ⌝ }
     ensures after { λ _. ⌜ now (out .exit) ≡ session-of (now (bytes .entry)) (now (out .entry)) .out ⌝ }
+    ensures law { λ r. ⌜ Shows (now (bytes .entry)) (now (out .entry)) (now (out .exit)) r ⌝ }
 {
     let mut words = [0; TRAY_WORDS];
     let mut nodes = [Node::ZERO; NODES];

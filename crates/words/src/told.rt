@@ -6,7 +6,7 @@ ghost use Rattle.words.specs.declared.word.Word.{Word};
 ghost use Rattle.words.specs.Words.{is-place, told, coded, Proper};
 use crate::word::Word;
 
-// The highest place of a node or of a descriptor that a word can name.
+// The highest place of a node or of a descriptor that a word can name; so no table has more places.
 pub const LAST_PLACE: u32 = 4095;
 
 // The highest scanner number that a mark can name.
