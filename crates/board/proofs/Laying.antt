@@ -17,7 +17,8 @@ use Rattle.refusals.specs.declared.refusal.Refusal.the-variants.{TableLength, T
 use Rattle.records.specs.declared.entries.Node.{Node}
 use Rattle.records.specs.Tables.{Tables, zero-node}
 use Rattle.places.specs.Places.{has-place, taken-after}
-use Rattle.kinds.specs.Plans.{Plan, Opens, Opened}
+use Rattle.kinds.specs.Plans.{Plan}
+use Rattle.kinds.specs.Points.{Points, Opening-word}
 use Rattle.board.specs.Numbers.{Numbers, fits}
 use Rattle.board.specs.Kinds.{capped, kind-of}
 use Rattle.board.specs.Lays.{Laid, opens-with, opens-tray, lays, with-nodes, refused}
@@ -30,11 +31,11 @@ abbrev Lawful : ℕ → Numbers → Tables → Laid → Type 0
 Lawful kind n t l = Laying kind n (l .board) t (l .tables) (l .answer)
 
 -- the opening word, in terms of the counts before and after
-fresh : (n n′ : Numbers) (takes : Bool) (node word : ℕ) → (takes ≡ true → (n .nodes-taken < node) × (node ≤ n′ .nodes-taken)) → Opened takes node word → Fresh n n′ word
+fresh : (n n′ : Numbers) (takes : Bool) (node word : ℕ) → (takes ≡ true → (n .nodes-taken < node) × (node ≤ n′ .nodes-taken)) → Opening-word takes node word → Fresh n n′ word
 fresh n n′ takes node word new (inl none) = inl none
 fresh n n′ takes node word new (inr (yes-takes, is)) = inr (rw is (new yes-takes))
 
-module _ (plan : Plan) (opens : Opens plan) (kind : ℕ) (n : Numbers) (t : Tables) (room : length (t .words) ≡ 64) (few : n .trays < 32) (digits : n .kinds < 2 ^ (4 * n .trays)) where
+module _ (plan : Plan) (points : Points plan) (kind : ℕ) (n : Numbers) (t : Tables) (room : length (t .words) ≡ 64) (few : n .trays < 32) (digits : n .kinds < 2 ^ (4 * n .trays)) where
   -- the counts and the nodes are those after a node was taken, if the kind asks for one
   added : (taken : ℕ) (nodes : List Node) (node : ℕ)
       → ((i : ℕ) → i < n .nodes-taken → getD nodes i zero-node ≡ getD (t .nodes) i zero-node)
@@ -53,8 +54,8 @@ module _ (plan : Plan) (opens : Opens plan) (kind : ℕ) (n : Numbers) (t : Tabl
         one-more = refl;
         its-kind = grind (arith, tells, digit);
         other-kinds = λ u less. let same = old-digit u (n .trays) (capped kind) (n .kinds) less in grind (arith, tells, same);
-        first-word = fresh n (with-nodes-taken n taken) (plan .takes-node) node _ new (rw here (opens .first-word node));
-        second-word = fresh n (with-nodes-taken n taken) (plan .takes-node) node _ new (rw there (opens .second-word node));
+        first-word = fresh n (with-nodes-taken n taken) (plan .takes-node) node _ new (rw here (points .opens-first node));
+        second-word = fresh n (with-nodes-taken n taken) (plan .takes-node) node _ new (rw there (points .opens-second node));
         other-words = λ a no-first no-second. getD-set-other first (2 * n .trays + 1) a (plan .second node) 0 no-second ∙ getD-set-other (t .words) (2 * n .trays) a (plan .first node) 0 no-first;
         taken-nodes = kept;
         descriptors = refl;
@@ -80,13 +81,13 @@ module _ (plan : Plan) (opens : Opens plan) (kind : ℕ) (n : Numbers) (t : Tabl
   opened-lawful false is =
       added (n .nodes-taken) (t .nodes) 0 (λ i less. refl) (λ e. let z : _≡_ {A = ℕ} 0 1 = ap (λ b. cond b 1 0) (is ∙ e) in omega (arith, z))
 
-module _ (plan : ℕ → Plan) (opens : (k : ℕ) → Opens (plan k)) (n : Numbers) (t : Tables) (kind : ℕ) (digits : n .kinds < 2 ^ (4 * n .trays)) where
+module _ (plan : ℕ → Plan) (points : (k : ℕ) → Points (plan k)) (n : Numbers) (t : Tables) (kind : ℕ) (digits : n .kinds < 2 ^ (4 * n .trays)) where
   laid-if : (fit few : Bool) → fits n t ≡ fit → ltb (n .trays) 32 ≡ few
       → Lawful kind n t (cond fit (cond few (opens-tray (plan (capped kind) .takes-node) (plan (capped kind)) (capped kind) n t) (refused n t TraysFull)) (refused n t TableLength))
   laid-if true true fit few =
       let room : length (t .words) ≡ 64 = grind (arith, tells, fit) in
       let less : n .trays < 32 = grind (arith, tells, few) in
-      opened-lawful (plan (capped kind)) (opens (capped kind)) kind n t room less digits (plan (capped kind) .takes-node) refl
+      opened-lawful (plan (capped kind)) (points (capped kind)) kind n t room less digits (plan (capped kind) .takes-node) refl
   laid-if true false fit few = (refl, refl)
   laid-if false few fit _ = (refl, refl)
 

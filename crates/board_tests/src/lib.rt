@@ -4,16 +4,16 @@ mod tests {
     use board::board::Layout;
     use kinds::pair::Pair;
     use kinds::pair::PairKind;
-    use kinds::queue::Queue;
-    use kinds::queue::QueueKind;
-    use kinds::stack::Stack;
-    use kinds::stack::StackKind;
+    use queue::queue::Queue;
+    use queue::queue::QueueKind;
     use records::entries::Descriptor;
     use records::entries::Node;
     use records::scanner::Scanner;
     use refusals::refusal::Refusal;
     use refusals::refusal::RefusalDebug;
     use refusals::refusal::RefusalPartialEq;
+    use stack::stack::Stack;
+    use stack::stack::StackKind;
     use std::test::*;
 
     type Kinds = Pair<Queue, Stack>;

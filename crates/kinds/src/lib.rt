@@ -1,5 +1,4 @@
-// Kinds of tray: how a tray of each kind is opened.
+// Kinds of tray: what a request at a tray does next, by its kind.
+pub mod acts;
 pub mod kind;
 pub mod pair;
-pub mod queue;
-pub mod stack;

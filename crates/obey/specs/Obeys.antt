@@ -6,7 +6,9 @@ use Rattle.std.specs.declared.result.Result.the-variants.{Ok, Err}
 use Rattle.refusals.specs.declared.refusal.Refusal.{Refusal}
 use Rattle.refusals.specs.declared.refusal.Refusal.the-variants.{OutOfPhase}
 use Rattle.records.specs.Tables.{Tables}
-use Rattle.kinds.specs.Plans.{Plan, queue-plan, stack-plan, pick}
+use Rattle.kinds.specs.Plans.{Plan, pick}
+use Rattle.queue.specs.Queue.{queue-plan}
+use Rattle.stack.specs.Stack.{stack-plan}
 use Rattle.board.specs.Numbers.{Numbers, numbers}
 use Rattle.board.specs.Lays.{Laid, lays}
 use Rattle.board.specs.Phases.{started}

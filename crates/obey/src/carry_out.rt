@@ -10,14 +10,14 @@ use crate::phase::Obeyed;
 use crate::phase::Phase;
 use crate::phase::Reply;
 use kinds::pair::PairKind;
-use kinds::queue::QueueKind;
-use kinds::stack::StackKind;
 use orders::order::Order;
 use orders::read_order;
+use queue::queue::QueueKind;
 use records::entries::Descriptor;
 use records::entries::Node;
 use records::scanner::Scanner;
 use refusals::refusal::Refusal;
+use stack::stack::StackKind;
 
 // An order that does not belong to this phase.
 fn out_of_phase(phase: Phase) -> Obeyed

@@ -1,7 +1,7 @@
 // The kinds of tray that the program has. They are named here and nowhere else.
 use kinds::pair::Pair;
-use kinds::queue::Queue;
-use kinds::stack::Stack;
+use queue::queue::Queue;
+use stack::stack::Stack;
 
 pub type Kinds = Pair<Queue, Stack>;
 

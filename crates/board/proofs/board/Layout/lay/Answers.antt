@@ -17,5 +17,5 @@ returns g c =
       answer = search needs;
       board = search needs;
       after = search needs;
-      law = equals-laid (c .args .kind) n t laid (laid-lawful plan (g .K·TrayKind·met .opens) n t (c .args .kind) (c .args .self .now .board .«kind_digits»)) _ _ _ (search needs) (search needs) (search needs);
+      law = equals-laid (c .args .kind) n t laid (laid-lawful plan (g .K·TrayKind·met .points) n t (c .args .kind) (c .args .self .now .board .«kind_digits»)) _ _ _ (search needs) (search needs) (search needs);
     }

@@ -1,0 +1,13 @@
+pub mod Basics
+pub mod Stable
+pub mod Effects
+pub mod Acts
+pub mod Values
+pub mod Cover
+pub mod Runs
+pub mod Descriptors
+pub mod Steps
+pub mod Counting
+pub mod Endings
+pub mod Main
+pub mod Example
