@@ -1,0 +1,9 @@
+pub mod Words
+pub mod Tables
+pub mod Accesses
+pub mod Memories
+pub mod Moves
+pub mod Keeps
+pub mod Meanings
+pub mod Main
+pub mod Example

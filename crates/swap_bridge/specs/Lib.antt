@@ -1,0 +1,6 @@
+pub mod Systems
+pub mod Abstraction
+pub mod Valid
+pub mod Does
+pub mod Theorems
+pub mod Example
