@@ -57,6 +57,14 @@ pub trait TrayKind {
     fn last_swap(kind: u32, tray: u32, node: u32, notes: Notes) -> Option<Swap>
         ensures { λ r. ⌜ r ≡ plan kind .last-swap tray node notes ⌝ };
 
+    // The plain rule: the place at which a put adds its parcel to those that are there, counted from 0, and the place of the
+    // parcel that a take gives and removes.
+    fn adds_at(kind: u32, parcels: &[u32], parcel: u32) -> usize
+        ensures { λ r. ⌜ r ≡ plan kind .rule .adds-at parcel (now (parcels .entry)) ⌝ };
+
+    fn gives_at(kind: u32, parcels: &[u32]) -> usize
+        ensures { λ r. ⌜ r ≡ plan kind .rule .gives-at (now (parcels .entry)) ⌝ };
+
     // The most acts from a start to a commit or a finish, when undisturbed.
     fn most_acts(kind: u32) -> u32
         ensures { λ r. ⌜ r ≡ plan kind .most ⌝ };

@@ -90,6 +90,22 @@ pub impl<A: TrayKind, B: TrayKind> TrayKind for Pair<A, B> as PairKind {
         }
     }
 
+    fn adds_at(kind: u32, parcels: &[u32], parcel: u32) -> usize {
+        if kind == 0 {
+            A::adds_at(0, parcels, parcel)
+        } else {
+            B::adds_at(kind - 1, parcels, parcel)
+        }
+    }
+
+    fn gives_at(kind: u32, parcels: &[u32]) -> usize {
+        if kind == 0 {
+            A::gives_at(0, parcels)
+        } else {
+            B::gives_at(kind - 1, parcels)
+        }
+    }
+
     fn most_acts(kind: u32) -> u32 {
         if kind == 0 {
             A::most_acts(0)

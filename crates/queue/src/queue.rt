@@ -155,6 +155,14 @@ pub impl TrayKind for Queue as QueueKind {
         Some(tail_swap(tray, notes.one, node))
     }
 
+    fn adds_at(_kind: u32, parcels: &[u32], _parcel: u32) -> usize {
+        parcels.len()
+    }
+
+    fn gives_at(_kind: u32, _parcels: &[u32]) -> usize {
+        0
+    }
+
     fn most_acts(_kind: u32) -> u32 {
         Queue::MOST_ACTS
     }

@@ -95,6 +95,14 @@ pub impl TrayKind for Stack as StackKind {
         None
     }
 
+    fn adds_at(_kind: u32, _parcels: &[u32], _parcel: u32) -> usize {
+        0
+    }
+
+    fn gives_at(_kind: u32, _parcels: &[u32]) -> usize {
+        0
+    }
+
     fn most_acts(_kind: u32) -> u32 {
         Stack::MOST_ACTS
     }
