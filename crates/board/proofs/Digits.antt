@@ -1,5 +1,5 @@
 -- One more digit of four bits.
-use Rattle.std.proofs.Common.{◌≡◌, ℕ, ◌+◌, ◌*◌, ◌%◌, ◌^◌, ◌<◌, ◌≤◌, ◌∙◌, mul-le-mul_right, mul-add, arith, pow_mono, pow-add, shl_exact}
+use Rattle.std.proofs.Common.{◌≡◌, ℕ, ◌+◌, ◌*◌, ◌%◌, ◌^◌, ◌<◌, ◌≤◌, mul-le-mul_right, mul-add, arith, pow_mono, pow-add, shl_exact}
 
 module _ (t kind kinds : ℕ) (few : t < 32) (small : kind ≤ 15) (below : kinds < 2 ^ (4 * t)) where
   pub exact : (kind * 2 ^ (4 * t)) % 2 ^ 128 ≡ kind * 2 ^ (4 * t)

@@ -1,5 +1,5 @@
 -- Laying a tray adds just that tray.
-use Rattle.std.proofs.Common.{◌≡◌, ℕ, ◌+◌, ◌*◌, ◌^◌, ◌<◌, ◌≤◌, min, Bool, true, false, cond, eqb, ltb, ◌≢◌, ◌⊎◌, List, length, get_or, set, Ok, Err, Result, sym, refl, ap, ◌∙◌, subst, inl, inr, arith, length-set, get_or-set_other, get_or-set_same, rules}
+use Rattle.std.proofs.Common.{◌≡◌, ℕ, ◌+◌, ◌*◌, ◌^◌, ◌<◌, ◌≤◌, Bool, true, false, cond, ltb, List, length, get_or, set, Result, sym, refl, ap, ◌∙◌, subst, inl, inr, arith, length-set, get_or-set_other, get_or-set_same}
 use Rattle.std.proofs.lemmas.Bool.Decides.{nat_tests}
 use Rattle.refusals.specs.declared.refusal.Refusal.{Refusal}
 use Rattle.refusals.specs.declared.refusal.Refusal.TheVariants.{TableLength, TraysFull, NodesFull}
@@ -9,10 +9,10 @@ use Rattle.places.specs.Places.{has_place, taken_after}
 use Rattle.kinds.specs.Plans.{Plan}
 use Rattle.kinds.specs.Points.{Points, OpeningWord}
 use Rattle.board.specs.Numbers.{Numbers, fits}
-use Rattle.board.specs.Kinds.{capped, kind_of}
+use Rattle.board.specs.Kinds.{capped}
 use Rattle.board.specs.Lays.{Laid, opens_with, opens_tray, lays, with_nodes, refused}
 use Rattle.board.specs.Takes.{numbers_with_node, nodes_with_node, with_nodes_taken}
-use Rattle.board.specs.Laws.{Fresh, AddsTray, Laying}
+use Rattle.board.specs.Laws.{Fresh, Laying}
 use Rattle.board.proofs.Kept.{new_digit, old_digit}
 
 -- what a call leaves is as the law says

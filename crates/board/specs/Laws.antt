@@ -4,7 +4,6 @@ use Rattle.refusals.specs.declared.refusal.Refusal.{Refusal}
 use Rattle.records.specs.Tables.{Tables, zero_node}
 use Rattle.board.specs.Numbers.{Numbers}
 use Rattle.board.specs.Kinds.{capped, kind_of}
-use Rattle.board.specs.Lays.{Laid}
 
 -- a word of a tray that was just opened: nil, or a node that was not taken before and is taken now
 abbrev pub Fresh : Numbers → Numbers → ℕ → Type 0

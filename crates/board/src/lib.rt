@@ -1,4 +1,6 @@
 // The board: begun over four lent tables, laid out with trays, then started. The phase is the type.
+#![tactic(auto)]
+
 pub mod begin;
 pub mod board;
 pub mod kinds_laid;

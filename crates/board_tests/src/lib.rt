@@ -1,3 +1,5 @@
+#![tactic(auto)]
+
 // Worked examples of laying out a board.
 #[cfg(test)]
 mod tests {

@@ -1,4 +1,6 @@
 // The depot program: plays session files, and packs them from lines of order texts.
+#![tactic(auto)]
+
 use anyhow::anyhow;
 use index::file::MOST;
 use packer::fault::PackFault;

@@ -1,2 +1,4 @@
 // Reads session files, which hold order texts behind an index.
+#![tactic(auto)]
+
 pub mod file;

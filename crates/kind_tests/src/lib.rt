@@ -1,3 +1,5 @@
+#![tactic(auto)]
+
 // Counted examples of undisturbed puts and takes.
 #[cfg(test)]
 mod tests {

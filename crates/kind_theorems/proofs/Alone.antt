@@ -1,24 +1,22 @@
 -- Requests that are left alone come to their commits.
 use mathlib.Core.Path.{◌≡◌, refl, sym, ap, subst, ◌∙◌}
-use mathlib.Core.Logic.{◌≢◌}
-use mathlib.Core.Bool.{Bool, true, false, ◌||◌}
+use mathlib.Core.Bool.{true, false, ◌||◌}
 use mathlib.Core.List.{List, [], ◌∷◌, ◌++◌}
-use Prim.Native.Nat.{ℕ, zero, suc, ◌+◌, ◌<◌}
+use Prim.Native.Nat.{ℕ, zero, suc, ◌+◌}
 use native.Mathlib.Omega.{arith}
 use native.Mathlib.Decide.{ℕ_discrete}
-use lib.ListN.{length, take, drop, get_or}
-use Rattle.records.specs.declared.entries.Swap.{Swap}
+use lib.ListN.{take, drop, get_or}
 use Rattle.kinds.specs.declared.acts.Notes.{Notes}
 use Rattle.kinds.specs.declared.acts.PutAct.{PutAct}
 use Rattle.kinds.specs.declared.acts.PutAct.TheVariants.{Read as PutRead, Tidy as PutTidy, Commit as PutCommit}
 use Rattle.kinds.specs.declared.acts.TakeAct.{TakeAct}
 use Rattle.kinds.specs.declared.acts.TakeAct.TheVariants.{Read as TakeRead, Tidy as TakeTidy, Commit as TakeCommit, Empty}
-use Rattle.kinds.specs.Views.{View, Same, Wrote}
-use Rattle.kinds.specs.Plain.{Rule, Within, adds, Given, nothing, gives, yields}
-use Rattle.kinds.specs.Plans.{Plan, start, found_nothing, Slot, idle, puts, rests, takes, Requests, Turns, is_empty, finds, did, did_not}
+use Rattle.kinds.specs.Views.{View}
+use Rattle.kinds.specs.Plain.{Rule, Within, adds, gives, yields}
+use Rattle.kinds.specs.Plans.{Plan, start, found_nothing, idle, puts, rests, takes, Requests, is_empty, finds, did, did_not}
 use Rattle.kinds.specs.Runs.{Reached, Takes, quietly, by_put, by_take, put_commits, take_commits}
 use Rattle.kinds.specs.Runs.{put_reads as quiet_put_reads, put_tidies as quiet_put_tidies, take_reads as quiet_take_reads, take_tidies as quiet_take_tidies}
-use Rattle.kinds.specs.Points.{Points, Exactly, hit, miss, PutEnds, TakeEnds}
+use Rattle.kinds.specs.Points.{Points, hit, miss, PutEnds, TakeEnds}
 use Rattle.kinds.specs.Points.{PutAlone as PutActAlone, TakeAlone as TakeActAlone}
 use Rattle.kind_theorems.specs.Alone.{PutAlone, put_here, put_reads, put_tidies, TakeAlone, take_here, take_reads, take_tidies, PutDone, TakeDone, PutThenTake}
 use Rattle.kind_theorems.proofs.Made.{written, wrote, turned, turns, same}
@@ -142,7 +140,7 @@ module _ (P : Plan) (F : Points P) (t s x : ℕ) where
           let wr = wrote V w.address w.new in
           let V' = written V w.address w.new in
           let p = take_commits s m false w y is act h wr (turns E s idle) in
-          let gave : gives x [] ≡ gives y (P.contents t V') = sym (only_one P.rule F.rule_within x) ∙ ap (yields P.rule) (sym now) ∙ F.take_Gives t V V' E _ y r p in
+          let gave : gives x [] ≡ gives y (P.contents t V') = sym (only_one P.rule F.rule_within x) ∙ ap (yields P.rule) (sym now) ∙ F.take_gives t V V' E _ y r p in
           let this : y ≡ x = cc in
           let none : P.contents t V' ≡ [] = cc in
           record {

@@ -1,4 +1,6 @@
 // What follows for every kind of tray from the points that it shows.
+#![tactic(auto)]
+
 ghost use Rattle.std.specs.Prelude.{ℕ};
 ghost use Rattle.kind_theorems.specs.Alone.{PutThenTake};
 

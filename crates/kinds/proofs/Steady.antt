@@ -1,5 +1,5 @@
 -- What a kind shows of its facts, one clause for each thing that can happen. From these the points follow, for any requests at once.
-use Rattle.std.proofs.Common.{◌≡◌, ℕ, ◌+◌, ◌≤◌, Bool, true, false, ◌||◌, List, [], ◌∷◌, Some, None, Option}
+use Rattle.std.proofs.Common.{◌≡◌, ℕ, ◌+◌, ◌≤◌, Bool, true, false, ◌||◌, List, [], Some, None, Option}
 use Rattle.records.specs.declared.entries.Swap.{Swap}
 use Rattle.kinds.specs.declared.acts.Notes.{Notes}
 use Rattle.kinds.specs.declared.acts.PutAct.{PutAct}

@@ -1,5 +1,5 @@
 -- The plain rule of a kind: where a put adds its one parcel, and which one parcel a take gives and removes.
-use Rattle.std.specs.Prelude.{◌≡◌, ℕ, ◌+◌, ◌<◌, List, [], ◌∷◌, ◌++◌, length, take, drop, slice_index}
+use Rattle.std.specs.Prelude.{ℕ, ◌+◌, ◌<◌, List, [], ◌∷◌, ◌++◌, length, take, drop, slice_index}
 
 pub record Rule : Type 0 where
   -- the place of a put's parcel among those that are there, counted from 0

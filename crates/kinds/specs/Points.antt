@@ -1,5 +1,5 @@
 -- What every kind of tray shows, of everything that can have come about at a tray.
-use Rattle.std.specs.Prelude.{◌≡◌, ℕ, zero, suc, ◌+◌, ◌<◌, ◌≤◌, Bool, true, false, cond, ◌||◌, ◌≢◌, ◌⊎◌, List, [], Some}
+use Rattle.std.specs.Prelude.{◌≡◌, ℕ, zero, suc, ◌+◌, ◌<◌, ◌≤◌, Bool, true, false, ◌≢◌, ◌⊎◌, [], Some}
 use Rattle.records.specs.declared.entries.Swap.{Swap}
 use Rattle.kinds.specs.declared.acts.Notes.{Notes}
 use Rattle.kinds.specs.declared.acts.PutAct.{PutAct}

@@ -1,5 +1,5 @@
 -- All that can happen at one tray, with any steps of others between.
-use Rattle.std.specs.Prelude.{◌≡◌, ℕ, ◌+◌, ◌*◌, ◌<◌, Bool, true, false, cond, ◌||◌, Some}
+use Rattle.std.specs.Prelude.{◌≡◌, ℕ, ◌+◌, ◌*◌, ◌<◌, Bool, false, cond, ◌||◌, Some}
 use Rattle.records.specs.declared.entries.Swap.{Swap}
 use Rattle.kinds.specs.declared.acts.Notes.{Notes}
 use Rattle.kinds.specs.declared.acts.PutAct.TheVariants.{Read as PutRead, Tidy as PutTidy, Commit as PutCommit}

@@ -1,4 +1,6 @@
 // Kinds of tray: what a request at a tray does next, by its kind.
+#![tactic(auto)]
+
 pub mod acts;
 pub mod kind;
 pub mod pair;

@@ -1,4 +1,6 @@
 // Printed lines, written into what is left of a lent output.
+#![tactic(auto)]
+
 mod digits;
 mod front;
 mod measure;

@@ -1,4 +1,6 @@
 // The shared tables as a step sees them: how a word is read and written through them, and what it stands for.
+#![tactic(auto)]
+
 pub mod address;
 pub mod meaning;
 pub mod reads;

@@ -1,4 +1,6 @@
 // Orders, read from their texts.
+#![tactic(auto)]
+
 mod number;
 pub mod order;
 mod read;

@@ -5,7 +5,7 @@ use Rattle.refusals.specs.declared.refusal.Refusal.{Refusal}
 use Rattle.records.specs.Tables.{Tables}
 use Rattle.lines.specs.Lines.{line_of}
 use Rattle.lines.specs.Places.{end_at, written_at}
-use Rattle.obey.specs.Obeys.{Replied, Done, obeys}
+use Rattle.obey.specs.Obeys.{Replied, obeys}
 use Rattle.obey.specs.Prints.{values}
 use Rattle.session.specs.declared.fault.Played.{Played}
 use Rattle.session.specs.Plays.{State, state, Ended, ended, whole, broken, on_line, after_order, orders_from}

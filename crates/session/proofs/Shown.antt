@@ -1,8 +1,7 @@
 -- What a whole session shows.
-use Rattle.std.proofs.Common.{◌≡◌, ℕ, ◌+◌, ◌≤◌, ◌⊎◌, List, [], ◌∷◌, ◌++◌, length, take, drop, Ok, Err, Result, sym, refl, ap, ◌∙◌, subst, inl, inr, arith}
+use Rattle.std.proofs.Common.{◌≡◌, ℕ, List, [], ◌∷◌, Ok, Err, Result, sym, refl, ap, ◌∙◌, subst, inl, inr, arith}
 use Rattle.refusals.specs.declared.refusal.Refusal.{Refusal}
 use Rattle.refusals.specs.declared.refusal.Refusal.TheVariants.{BadIndex}
-use Rattle.refusals.specs.Numbers.{number_of}
 use Rattle.records.specs.Tables.{Tables}
 use Rattle.board.specs.Numbers.{Numbers}
 use Rattle.index.specs.Texts.{texts}
@@ -11,8 +10,8 @@ use Rattle.lines.specs.Lines.{line_of}
 use Rattle.lines.specs.Places.{end_at, written_at}
 use Rattle.obey.specs.Obeys.{laid_out}
 use Rattle.session.specs.declared.fault.Played.{Played}
-use Rattle.session.specs.Plays.{State, state, Ended, ended, broken, damaged, heading, orders_from, on_texts, on_heading, session_of}
-use Rattle.session.specs.Laws.{lines_from, Damaged, Told, Shows}
+use Rattle.session.specs.Plays.{State, state, Ended, damaged, heading, orders_from, on_texts, on_heading, session_of}
+use Rattle.session.specs.Laws.{Shows}
 use Rattle.session.proofs.Printed.{Holds, starts, prints}
 use Rattle.session.proofs.Told.{Lines, printed}
 

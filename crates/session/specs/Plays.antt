@@ -1,16 +1,15 @@
 -- A whole session, from the bytes of its file to the bytes of its output.
-use Rattle.std.specs.Prelude.{ℕ, ◌+◌, List, [], ◌∷◌, length, replicate, Some, None, Ok, Err, codes, Option, Result}
+use Rattle.std.specs.Prelude.{ℕ, ◌+◌, List, [], ◌∷◌, replicate, Some, None, Ok, Err, codes, Result}
 use Rattle.refusals.specs.declared.refusal.Refusal.{Refusal}
 use Rattle.refusals.specs.Numbers.{number_of}
 use Rattle.records.specs.Tables.{Tables, tables, zero_node, zero_descriptor, zero_scanner}
 use Rattle.board.specs.Numbers.{Numbers}
-use Rattle.board.specs.Begins.{begins, zeroed, bare}
+use Rattle.board.specs.Begins.{begins, zeroed}
 use Rattle.index.specs.Texts.{texts}
 use Rattle.lines.specs.Lines.{line_of}
 use Rattle.lines.specs.Places.{end_at, written_at}
 use Rattle.session.specs.declared.fault.Played.{Played}
-use Rattle.session.specs.declared.fault.SessionFault.{SessionFault}
-use Rattle.obey.specs.Obeys.{Phased, laid_out, Replied, Done, obeys}
+use Rattle.obey.specs.Obeys.{Phased, laid_out, Done, obeys}
 use Rattle.obey.specs.Prints.{values}
 
 -- the board in its phase, the tables, and the output, of which the first `at` bytes are written

@@ -1,3 +1,5 @@
 // A session: order texts in, printed lines out.
+#![tactic(auto)]
+
 pub mod fault;
 pub mod play;

@@ -14,6 +14,7 @@ use swap_access::position::Position;
 use words::told::LAST_SCANNER;
 
 // The access of a scanner that stands at a position; a scanner that can have no mark is torn.
+#[tactic(auto, unfolding(crate::specs::Dispatch::decided))]
 pub fn decide(memory: Memory, scanner: u32, at: Position) -> Result<Effect, Refusal>
     ensures { result ≡ decided (seen memory.entry) scanner at }
 {

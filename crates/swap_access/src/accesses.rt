@@ -11,6 +11,7 @@ use refusals::refusal::Refusal;
 use words::word::Word;
 
 // address: old → new, and where the scanner stands after it, as the swap succeeds or fails.
+#[tactic(auto, unfolding(crate::specs::Accesses::swap_word))]
 pub fn swap_word(
     memory: Memory,
     address: u32,
@@ -32,6 +33,7 @@ pub fn swap_word(
 }
 
 // address: old → new, where the old word is a descriptor's and the new one is the descriptor or a mark of it.
+#[tactic(auto, unfolding(crate::specs::Accesses::install))]
 pub fn install(
     memory: Memory,
     address: u32,
@@ -49,6 +51,7 @@ pub fn install(
 
 // address: old → new, where the old word is a descriptor or a mark of it and the new one is the descriptor's. The scanner
 // goes on alike whether the swap succeeds or fails.
+#[tactic(auto, unfolding(crate::specs::Accesses::remove))]
 pub fn remove(
     memory: Memory,
     address: u32,

@@ -11,6 +11,7 @@ use words::told::tell;
 use words::word::Word;
 
 // The number of the word at an address.
+#[tactic(auto, unfolding(crate::specs::Found::found_at))]
 pub fn found_at(memory: Memory, address: u32) -> Result<u32, Refusal>
     ensures { result ≡ found_at (seen memory.entry) address }
 {
@@ -35,6 +36,7 @@ pub fn found_at(memory: Memory, address: u32) -> Result<u32, Refusal>
 }
 
 // What the result of a descriptor says.
+#[tactic(auto, unfolding(crate::specs::Found::outcome_at))]
 pub fn outcome_at(memory: Memory, descriptor: u32) -> Result<Outcome, Refusal>
     ensures { result ≡ outcome_at (seen memory.entry) descriptor }
 {

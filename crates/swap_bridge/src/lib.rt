@@ -1,5 +1,7 @@
 // What the code of the two-word swap does over the tables is a run of the abstract machine, whose theorem is therefore about the code.
 // The contracts name the theorems, which stand in specs/Theorems.antt; the functions compute nothing.
+#![tactic(auto)]
+
 ghost use Rattle.swap_bridge.specs.Example.{Swaps};
 ghost use Rattle.swap_bridge.specs.Theorems.{CodeIsTheMachine, SystemIsSafe};
 

@@ -1,4 +1,6 @@
 // Shows a two-word swap that one scanner begins and another finishes, with what both addresses stand for after each step.
+#![tactic(auto)]
+
 use anyhow::anyhow;
 use memory::view::Memory;
 use records::entries::{Descriptor, Node, Swap};

@@ -1,5 +1,7 @@
 // The two-word swap with helping is safe, and it happens: the contracts name the theorems, and proofs/ shows them.
 // What is promised stands in specs/Safety.antt, of the machine in specs/Machine.antt. The functions compute nothing.
+#![tactic(auto)]
+
 ghost use Rattle.swap_machine.specs.Example.{Helps, Swaps};
 ghost use Rattle.swap_machine.specs.Safety.{Safe};
 

@@ -1,4 +1,6 @@
 // One step of a scanner in a two-word swap: what the access does is found first, and then written.
+#![tactic(auto)]
+
 pub mod step_once;
 #[cfg(test)]
 mod tests;

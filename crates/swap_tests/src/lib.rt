@@ -1,3 +1,5 @@
+#![tactic(auto)]
+
 // Every schedule of two scanners, one with a two-word swap of its own and one that helps.
 #[cfg(test)]
 mod tests {

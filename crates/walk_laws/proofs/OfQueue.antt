@@ -1,5 +1,5 @@
 -- A queue's parcels stand in a chain behind its leading node, so the walk gives them.
-use Rattle.std.proofs.Common.{◌≡◌, ℕ, ◌+◌, ◌*◌, Ok, sym, ap, ◌∙◌, arith}
+use Rattle.std.proofs.Common.{◌≡◌, ◌+◌, ◌*◌, Ok, sym, ap, ◌∙◌, arith}
 use Rattle.memory.specs.Reads.{word_at}
 use Rattle.memory.specs.Meaning.{stands_for}
 use Rattle.kinds.specs.Views.{Owned}

@@ -1,9 +1,8 @@
 -- The walk through the tables and the walk through the view meet the same nodes.
-use Rattle.std.proofs.Common.{◌≡◌, ℕ, zero, suc, ◌+◌, ◌-◌, ◌<◌, ◌≤◌, Bool, true, false, cond, ◌&&◌, eqb, leb, List, [], ◌∷◌, length, get_or, Some, None, Ok, Err, Option, Result, sym, refl, ap, ◌∙◌, ap₂, arith}
+use Rattle.std.proofs.Common.{◌≡◌, ℕ, zero, suc, ◌+◌, ◌-◌, ◌<◌, ◌≤◌, true, false, cond, ◌&&◌, eqb, leb, List, [], ◌∷◌, length, get_or, Some, None, Ok, Err, Result, sym, ap, ◌∙◌, arith}
 use Rattle.std.proofs.lemmas.Bool.Decides.{nat_tests}
 use Rattle.refusals.specs.declared.refusal.Refusal.{Refusal}
 use Rattle.refusals.specs.declared.refusal.Refusal.TheVariants.{Torn}
-use Rattle.records.specs.declared.entries.Node.{Node}
 use Rattle.records.specs.Tables.{zero_node}
 use Rattle.memory.specs.declared.address.Address.TheVariants.{TrayWord, NextWord}
 use Rattle.memory.specs.Addresses.{addressed}
@@ -12,7 +11,7 @@ use Rattle.memory.specs.Meaning.{stands_for}
 use Rattle.kinds.specs.Views.{View}
 use Rattle.kinds.specs.Walks.{walk}
 use Rattle.kinds.proofs.Chains.{Chain, chain_walk}
-use Rattle.walks.specs.Walked.{led_to, onward, walked_below, walked}
+use Rattle.walks.specs.Walked.{led_to, onward, walked_below}
 use Rattle.walk_laws.specs.Seeing.{or_zero, meaning_at, view_of, Whole}
 use Rattle.walk_laws.specs.Contents.{Leads, WalkGivesParcels}
 

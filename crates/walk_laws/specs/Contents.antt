@@ -4,7 +4,7 @@ use Rattle.memory.specs.Reads.{Seen, word_at}
 use Rattle.memory.specs.Meaning.{stands_for}
 use Rattle.kinds.specs.Views.{View}
 use Rattle.kinds.specs.Walks.{walk}
-use Rattle.kinds.specs.Plans.{Plan, Requests}
+use Rattle.kinds.specs.Plans.{Requests}
 use Rattle.kinds.specs.Runs.{Reached}
 use Rattle.stack.specs.Stack.{stack_plan}
 use Rattle.queue.specs.Queue.{queue_plan}

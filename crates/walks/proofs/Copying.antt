@@ -1,8 +1,7 @@
 -- What has been copied is the front of the list, and what is left of the walk gives the rest of it.
-use Rattle.std.proofs.Common.{◌≡◌, ℕ, zero, suc, ◌+◌, ◌-◌, ◌<◌, ◌≤◌, List, [], ◌∷◌, ◌++◌, length, get_or, take, drop, set, Some, None, Ok, Err, Option, Result, sym, refl, ap, ◌∙◌, ap₂, append_assoc, arith, length-drop}
+use Rattle.std.proofs.Common.{◌≡◌, ℕ, zero, suc, ◌+◌, ◌<◌, ◌≤◌, List, [], ◌∷◌, ◌++◌, length, get_or, take, drop, set, Some, None, Ok, Err, Option, Result, sym, refl, ap, ◌∙◌, ap₂, append_assoc, arith, length-drop}
 use Rattle.std.proofs.lemmas.List.{length-take-le, take_all, drop_all, take_more, drop_more, set_at}
 use Rattle.refusals.specs.declared.refusal.Refusal.{Refusal}
-use Rattle.refusals.specs.declared.refusal.Refusal.TheVariants.{Torn}
 use Rattle.records.specs.declared.entries.Node.{Node}
 use Rattle.memory.specs.Reads.{Seen, on_ok}
 use Rattle.walks.specs.Walked.{led_to, onward, walked_below, walked, counted, laid}

@@ -3,8 +3,8 @@ use Rattle.index.specs.Index.{all_lie}
 use Rattle.index.proofs.Lies.{begins_early, leaves, one_more, end_before_more}
 use Rattle.index.proofs.file.all_lie.Goals as goal
 
-pub returns-then-offset-of-end : goal.returns-then-offset-of-end
-returns-then-offset-of-end c = begins_early _ _ _ c.loop-order.invariant _ c.loop-order-test.true (omega arith)
+pub returns-then-offset_of-end : goal.returns-then-offset_of-end
+returns-then-offset_of-end c = begins_early _ _ _ c.loop-order.invariant _ c.loop-order-test.true (omega arith)
 
 pub returns-then-end-bytes : goal.returns-then-end-bytes
 returns-then-end-bytes c = leaves _ _ _ c.loop-order.invariant _ c.loop-order-test.true (omega arith)
@@ -12,7 +12,7 @@ returns-then-end-bytes c = leaves _ _ _ c.loop-order.invariant _ c.loop-order-te
 pub loop-order-preserved : goal.loop-order-preserved
 loop-order-preserved c = (
   one_more _ _ _ c.loop-order.invariant (omega arith) (omega arith),
-  c.end-of-end.ensures ∙ end_before_more _ _,
+  c.end_of-end.ensures ∙ end_before_more _ _,
 )
 
 pub returns : goal.returns

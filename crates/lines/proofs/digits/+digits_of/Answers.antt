@@ -19,18 +19,18 @@ returns-then-n-lt10 t c =
     }
 
 pub bounds-digits-digits : goal.bounds-digits-digits
-bounds-digits-digits t c = omega (arith, front c.args.n (omega arith), c.digits-of-digits.ensures.long)
+bounds-digits-digits t c = omega (arith, front c.args.n (omega arith), c.digits_of-digits.ensures.long)
 
 pub returns : goal.returns
 returns t c =
     let n : ℕ = c.args.n in
-    let d = c.digits-of-digits.result in
+    let d = c.digits_of-digits.result in
     let step = decimal_step n (omega arith) (omega arith) in
     let short = front n (omega arith) in
-    let long = c.digits-of-digits.ensures.long in
+    let long = c.digits_of-digits.ensures.long in
     let within : d.len < length d.bytes = omega (arith, short, long) in
     record {
-      digits = take_more_set d.bytes d.len (48 + n % 10) within ∙ ap (λ l. l ++ ((48 + n % 10) ∷ [])) c.digits-of-digits.ensures.digits ∙ sym step;
+      digits = take_more_set d.bytes d.len (48 + n % 10) within ∙ ap (λ l. l ++ ((48 + n % 10) ∷ [])) c.digits_of-digits.ensures.digits ∙ sym step;
       bound = omega (arith, short, long);
       long = omega (arith, long, ap length step, length_push (decimal (n / 10)) (48 + n % 10));
     }

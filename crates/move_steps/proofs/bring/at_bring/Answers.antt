@@ -2,13 +2,13 @@ use Rattle.std.proofs.Common.{rules}
 use Rattle.move_steps.specs.Bring.{at_bring}
 use Rattle.move_steps.proofs.bring.at_bring.Goals as goal
 
-pub returns-in-err-kind : goal.returns-in-err-kind
+pub returns-in_err-kind : goal.returns-in_err-kind
 unfolding at_bring
-returns-in-err-kind g c = search rules
+returns-in_err-kind g c = search rules
 
-pub returns-in-err-position : goal.returns-in-err-position
+pub returns-in_err-position : goal.returns-in_err-position
 unfolding at_bring
-returns-in-err-position g c = search rules
+returns-in_err-position g c = search rules
 
 pub returns-in-Meets : goal.returns-in-Meets
 unfolding at_bring

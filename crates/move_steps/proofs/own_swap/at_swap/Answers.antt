@@ -2,9 +2,9 @@ use Rattle.std.proofs.Common.{rules}
 use Rattle.move_steps.specs.OwnSwap.{at_swap}
 use Rattle.move_steps.proofs.own_swap.at_swap.Goals as goal
 
-pub returns-in-err-access : goal.returns-in-err-access
+pub returns-in_err-access : goal.returns-in_err-access
 unfolding at_swap
-returns-in-err-access g c = search rules
+returns-in_err-access g c = search rules
 
 pub returns-in-At : goal.returns-in-At
 unfolding at_swap

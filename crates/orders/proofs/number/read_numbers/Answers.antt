@@ -7,24 +7,24 @@ use Rattle.orders.proofs.number.read_numbers.Goals as goal
 pub loop-place-init : goal.loop-place-init
 loop-place-init g c = (c.requires, length-replicate g.row.K 0, begins c.args.text.now g.row.K c.args.from)
 
-pub read-number-requires : goal.read-number-requires
-read-number-requires g c = c.loop-place.invariant.0
+pub read_number-requires : goal.read_number-requires
+read_number-requires g c = c.loop-place.invariant.0
 
-pub returns-in-err-number : goal.returns-in-err-number
-returns-in-err-number g c =
+pub returns-in_err-number : goal.returns-in_err-number
+returns-in_err-number g c =
     let loop = c.loop-place in
-    let error = err_from_is_err_and c.from-residual.result c.from-residual.ensures.1 in
+    let error = err_from_is_err_and c.from_residual.result c.from_residual.ensures.1 in
     let below : loop.place-index < g.row.K = omega arith in
-    error.1 ∙ ap Err error.2 ∙ fails c.args.text.now g.row.K loop.place-index loop.at loop.place-items _ loop.invariant.2 below _ c.in-err-number.ensures.value
+    error.1 ∙ ap Err error.2 ∙ fails c.args.text.now g.row.K loop.place-index loop.at loop.place-items _ loop.invariant.2 below _ c.in_err-number.ensures.value
 
 pub loop-place-preserved : goal.loop-place-preserved
 loop-place-preserved g c =
     let loop = c.loop-place in
     let below : loop.place-index < g.row.K = omega arith in
     let within : loop.place-index < length loop.place-items = omega (arith, loop.invariant.1) in (
-      c.in-ok-number.ensures.within,
+      c.in_ok-number.ensures.within,
       length-set _ _ _ ∙ loop.invariant.1,
-      goes c.args.text.now g.row.K loop.place-index loop.at loop.place-items _ loop.invariant.2 below _ within c.in-ok-number.ensures.value,
+      goes c.args.text.now g.row.K loop.place-index loop.at loop.place-items _ loop.invariant.2 below _ within c.in_ok-number.ensures.value,
     )
 
 pub returns-then-at-text : goal.returns-then-at-text

@@ -2,8 +2,8 @@ use Rattle.std.proofs.Common.{arith}
 use Rattle.packer.proofs.FirstLine.{ends_here, goes_on, at_the_end}
 use Rattle.packer.proofs.lines.line_end.Goals as goal
 
-pub returns-then-byte-eq-LINE-FEED : goal.returns-then-byte-eq-LINE-FEED
-returns-then-byte-eq-LINE-FEED c =
+pub returns-then-byte-eq-LINE_FEED : goal.returns-then-byte-eq-LINE_FEED
+returns-then-byte-eq-LINE_FEED c =
     let here = ends_here c.args.text.now c.loop-at.at (omega arith) (omega arith) in
     record { value = omega (arith, c.loop-at.invariant); bound = omega arith }
 

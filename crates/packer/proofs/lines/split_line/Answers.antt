@@ -7,15 +7,15 @@ use Rattle.packer.proofs.FirstLine.{past_feed, past_end, splits}
 use Rattle.packer.proofs.lines.split_line.Goals as goal
 use Rattle.packer.proofs.lines.split_line.Goals.{then-end-text, else-end-text}
 
-pub returns-then-is-empty : goal.returns-then-is-empty
-returns-then-is-empty c = ap lines_of (nil_from_length c.args.text.now (eqb-true _ _ (sym c.if-is-empty.ensures)))
+pub returns-then-is_empty : goal.returns-then-is_empty
+returns-then-is_empty c = ap lines_of (nil_from_length c.args.text.now (eqb-true _ _ (sym c.if-is_empty.ensures)))
 
 pub returns : goal.returns
 returns c =
     let text = c.args.text.now in
-    let end = c.line-end-end.result in
+    let end = c.line_end-end.result in
     let after = c.if-end-text.after in
-    let some : 0 < length text = omega (arith, eqb-false (length text) 0 (sym c.if-is-empty.ensures)) in
+    let some : 0 < length text = omega (arith, eqb-false (length text) 0 (sym c.if-is_empty.ensures)) in
     let same : drop after text ≡ drop (suc end) text =
     elim c.if-end-text.branch [ then-end-text w ↦ past_feed text end after w.after-is | else-end-text w ↦ past_end text end after w.if-end-text.false w.after-is ] in
-    rw (take_rest, sub-zero) (splits text end after some c.line-end-end.ensures.value c.line-end-end.ensures.bound same)
+    rw (take_rest, sub-zero) (splits text end after some c.line_end-end.ensures.value c.line_end-end.ensures.bound same)

@@ -6,6 +6,6 @@ pub returns-in-InWork : goal.returns-in-InWork
 unfolding unless_busy
 returns-in-InWork c = search rules
 
-pub returns-in-default : goal.returns-in-default
+pub returns-in_default : goal.returns-in_default
 unfolding unless_busy
-returns-in-default c = search rules
+returns-in_default c = search rules

@@ -10,17 +10,17 @@ pub returns-then-from-to : goal.returns-then-from-to
 unfolding starts_move
 returns-then-from-to g c = search rules
 
-pub returns-then-not-node-left : goal.returns-then-not-node-left
+pub returns-then-not-node_left : goal.returns-then-not-node_left
 unfolding starts_move
-returns-then-not-node-left g c = search rules
+returns-then-not-node_left g c = search rules
 
-pub returns-then-not-descriptor-left : goal.returns-then-not-descriptor-left
+pub returns-then-not-descriptor_left : goal.returns-then-not-descriptor_left
 unfolding starts_move
-returns-then-not-descriptor-left g c = search rules
+returns-then-not-descriptor_left g c = search rules
 
-pub returns-in-err-own : goal.returns-in-err-own
+pub returns-in_err-own : goal.returns-in_err-own
 unfolding starts_move
-returns-in-err-own g c = search rules
+returns-in_err-own g c = search rules
 
 pub returns : goal.returns
 unfolding starts_move

@@ -10,9 +10,9 @@ pub returns-then-parcel-eq0 : goal.returns-then-parcel-eq0
 unfolding starts_put
 returns-then-parcel-eq0 g c = search rules
 
-pub returns-then-not-node-left : goal.returns-then-not-node-left
+pub returns-then-not-node_left : goal.returns-then-not-node_left
 unfolding starts_put
-returns-then-not-node-left g c = search rules
+returns-then-not-node_left g c = search rules
 
 pub returns : goal.returns
 unfolding starts_put

@@ -2,17 +2,17 @@ use Rattle.std.proofs.Common.{rules}
 use Rattle.request_steps.specs.Finish.{at_finish}
 use Rattle.request_steps.proofs.finish.at_finish.Goals as goal
 
-pub returns-in-err-kind : goal.returns-in-err-kind
+pub returns-in_err-kind : goal.returns-in_err-kind
 unfolding at_finish
-returns-in-err-kind g c = search rules
+returns-in_err-kind g c = search rules
 
-pub returns-in-err-write : goal.returns-in-err-write
+pub returns-in_err-write : goal.returns-in_err-write
 unfolding at_finish
-returns-in-err-write g c = search rules
+returns-in_err-write g c = search rules
 
-pub returns-in-ok-write : goal.returns-in-ok-write
+pub returns-in_ok-write : goal.returns-in_ok-write
 unfolding at_finish
-returns-in-ok-write g c = search rules
+returns-in_ok-write g c = search rules
 
 pub returns-in-None : goal.returns-in-None
 unfolding at_finish

@@ -10,17 +10,17 @@ pub returns-then-scanner-crew : goal.returns-then-scanner-crew
 unfolding handed_in
 returns-then-scanner-crew g c = search rules
 
-pub returns-in-err-handed : goal.returns-in-err-handed
+pub returns-in_err-handed : goal.returns-in_err-handed
 unfolding handed_in
-returns-in-err-handed g c = search rules
+returns-in_err-handed g c = search rules
 
-pub returns-in-err-own : goal.returns-in-err-own
+pub returns-in_err-own : goal.returns-in_err-own
 unfolding handed_in
-returns-in-err-own g c = search rules
+returns-in_err-own g c = search rules
 
-pub returns-in-ok-own : goal.returns-in-ok-own
+pub returns-in_ok-own : goal.returns-in_ok-own
 unfolding handed_in
-returns-in-ok-own g c = search rules
+returns-in_ok-own g c = search rules
 
 pub returns-in-Repeat : goal.returns-in-Repeat
 unfolding handed_in

@@ -10,13 +10,13 @@ pub returns-then-scanner-crew : goal.returns-then-scanner-crew
 unfolding stepped
 returns-then-scanner-crew g c = search rules
 
-pub returns-in-default-progress : goal.returns-in-default-progress
+pub returns-in_default-progress : goal.returns-in_default-progress
 unfolding stepped
-returns-in-default-progress g c = search rules
+returns-in_default-progress g c = search rules
 
-pub returns-in-err-effect : goal.returns-in-err-effect
+pub returns-in_err-effect : goal.returns-in_err-effect
 unfolding stepped
-returns-in-err-effect g c = search rules
+returns-in_err-effect g c = search rules
 
 pub returns : goal.returns
 unfolding stepped

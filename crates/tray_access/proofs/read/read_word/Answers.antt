@@ -2,13 +2,13 @@ use Rattle.std.proofs.Common.{rules}
 use Rattle.tray_access.specs.Reads.{read_word}
 use Rattle.tray_access.proofs.read.read_word.Goals as goal
 
-pub returns-in-err-number : goal.returns-in-err-number
+pub returns-in_err-number : goal.returns-in_err-number
 unfolding read_word
-returns-in-err-number g c = search rules
+returns-in_err-number g c = search rules
 
-pub returns-in-err-found : goal.returns-in-err-found
+pub returns-in_err-found : goal.returns-in_err-found
 unfolding read_word
-returns-in-err-found g c = search rules
+returns-in_err-found g c = search rules
 
 pub returns-in-Some-Nil : goal.returns-in-Some-Nil
 unfolding read_word
@@ -18,9 +18,9 @@ pub returns-in-Some-Nil-2 : goal.returns-in-Some-Nil-2
 unfolding read_word
 returns-in-Some-Nil-2 g c = search rules
 
-pub returns-in-ok-found : goal.returns-in-ok-found
+pub returns-in_ok-found : goal.returns-in_ok-found
 unfolding read_word
-returns-in-ok-found g c = search rules
+returns-in_ok-found g c = search rules
 
 pub returns-in-Some-Descriptor : goal.returns-in-Some-Descriptor
 unfolding read_word

@@ -2,17 +2,17 @@ use Rattle.std.proofs.Common.{rules}
 use Rattle.tray_access.specs.Reads.{try_swap}
 use Rattle.tray_access.proofs.read.try_swap.Goals as goal
 
-pub returns-in-err-old : goal.returns-in-err-old
+pub returns-in_err-old : goal.returns-in_err-old
 unfolding try_swap
-returns-in-err-old c = search rules
+returns-in_err-old c = search rules
 
-pub returns-in-err-new : goal.returns-in-err-new
+pub returns-in_err-new : goal.returns-in_err-new
 unfolding try_swap
-returns-in-err-new c = search rules
+returns-in_err-new c = search rules
 
-pub returns-in-err-found : goal.returns-in-err-found
+pub returns-in_err-found : goal.returns-in_err-found
 unfolding try_swap
-returns-in-err-found c = search rules
+returns-in_err-found c = search rules
 
 pub returns-then-found-old : goal.returns-then-found-old
 unfolding try_swap

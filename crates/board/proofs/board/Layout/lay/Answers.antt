@@ -1,5 +1,5 @@
 -- The law follows from what `lays` is and from what the kinds' openings write.
-use Rattle.std.proofs.Common.{◌≡◌, rules}
+use Rattle.std.proofs.Common.{rules}
 use Rattle.records.specs.Tables.{tables}
 use Rattle.board.specs.Numbers.{numbers}
 use Rattle.board.specs.Lays.{lays}

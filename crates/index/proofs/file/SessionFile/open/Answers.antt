@@ -17,6 +17,6 @@ pub returns : goal.returns
 unfolding texts texts_of
 returns c =
     let file = c.args.bytes.now in
-    let lie : all_lie file (count_of file) ≡ true = ap (all_lie file) (sym c.number-at-count.ensures.value) ∙ sym c.if-not-all-lie.ensures in
+    let lie : all_lie file (count_of file) ≡ true = ap (all_lie file) (sym c.number_at-count.ensures.value) ∙ sym c.if-not-all_lie.ensures in
     let checked : sound file ≡ true = is_sound file (omega arith) (omega arith) (omega arith) lie in
     record { texts = says file checked; same = refl; apart = sound_apart file checked }

@@ -18,6 +18,6 @@ unfolding texts_of
 returns c =
     let file = c.args.self.now.bytes.now in
     let order = c.args.order in
-    let ends = c.end-of-end.ensures in
+    let ends = c.end_of-end.ensures in
     let begins = c.offset_of.ensures.value in
     (λ j. take (ends j - begins j) (drop (begins j) file)) ∙ there file order (omega (arith, count_within file)) (omega arith)
