@@ -45,6 +45,7 @@ impl<K: TrayKind> Layout<K> {
         ensures after { tables words.new nodes.new descriptors.now scanners.now ≡ (lays K.TrayKind.plan (numbers self.old.board) (tables words.old nodes.old descriptors.now scanners.now) kind).tables }
         ensures law { Laying kind (numbers self.old.board) (numbers self.new.board) (tables words.old nodes.old descriptors.now scanners.now) (tables words.new nodes.new descriptors.now scanners.now) result }
     {
+        K::show_points();
         self.lay_kind(words, nodes, descriptors, scanners, kind.min(LAST_KIND))
     }
 

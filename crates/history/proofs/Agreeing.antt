@@ -1,14 +1,12 @@
 -- A change of the trays by the plain rule is what the plain lists do, where they hold the same.
 use mathlib.Core.Path.{◌≡◌, refl, sym, ◌∙◌, ap}
 use mathlib.Core.Logic.{◌≢◌}
-use mathlib.Core.List.{List, [], ◌∷◌}
 use Prim.Native.Nat.{ℕ, ◌<◌}
-use native.Mathlib.Omega.{arith}
-use Rattle.records.specs.declared.wish.Wish.{Wish}
-use Rattle.records.specs.declared.wish.Wish.TheVariants.{Put, Take, Move}
-use Rattle.kinds.specs.Plain.{Rule, adds, gives, yields}
+use Rattle.records.specs.declared.scanner.Wish.{Wish}
+use Rattle.records.specs.declared.scanner.Wish.TheVariants.{Put, Take, Move}
+use Rattle.kinds.specs.Plain.{Rule, adds, yields}
 use Rattle.history.specs.Update.{update}
-use Rattle.history.specs.Events.{Answer, gave, was_empty}
+use Rattle.history.specs.Events.{gave, was_empty}
 use Rattle.history.specs.PlainLists.{Trays, told, without, shifted, reply, after, OnBoard, Change, FindsEmpty}
 use Rattle.history.proofs.Update.{update_all}
 

@@ -5,7 +5,7 @@ use mathlib.Core.Bool.{Bool, true, false, cond}
 use mathlib.Core.List.{List, [], ◌∷◌}
 use Prim.Native.Nat.{ℕ, ◌+◌, ◌<◌, ◌≤◌}
 use lib.Dec.{eqb}
-use Rattle.records.specs.declared.wish.Wish.{Wish}
+use Rattle.records.specs.declared.scanner.Wish.{Wish}
 use Rattle.kinds.specs.Plain.{Rule}
 use Rattle.history.specs.Events.{Answer, gave, was_empty, worn, Story, hand_ins, Numbered, Handed, Answered, changes, effects}
 use Rattle.history.specs.PlainLists.{Trays, Entry, run, Explains}

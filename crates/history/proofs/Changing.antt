@@ -1,20 +1,18 @@
 -- The changes of the plain lists: the plain rule inserts and removes one parcel, and what the plain lists answer names the change that they make.
 use mathlib.Core.Path.{◌≡◌, refl, sym, ◌∙◌, ap, subst}
-use mathlib.Core.Logic.{◌≢◌}
 use mathlib.Core.List.{List, [], ◌∷◌, ◌++◌}
-use Prim.Native.Nat.{ℕ, zero, suc, ◌+◌, ◌<◌, ◌≤◌}
+use Prim.Native.Nat.{ℕ, zero, suc, ◌<◌}
 use native.Mathlib.Nat.{le_of_suc-le-suc}
 use native.Mathlib.Numerals.{add-one}
 use native.Mathlib.Omega.{arith}
-use native.Mathlib.Decide.{ℕ_discrete}
 use lib.ListN.{length, take, drop, get_or}
-use Rattle.records.specs.declared.wish.Wish.{Wish}
-use Rattle.records.specs.declared.wish.Wish.TheVariants.{Put, Take, Move}
+use Rattle.records.specs.declared.scanner.Wish.{Wish}
+use Rattle.records.specs.declared.scanner.Wish.TheVariants.{Put, Take, Move}
 use Rattle.kinds.specs.Plain.{Rule, Within, adds, Given, nothing, gives, yields}
 use Rattle.history.specs.Update.{update}
-use Rattle.history.specs.Events.{Answer, gave, was_empty, worn}
-use Rattle.history.specs.PlainLists.{Trays, told, without, shifted, reply, after, Inserted, here, later, Rightly, OnBoard, Change, ByOne, FindsEmpty, Means, PlainChange}
-use Rattle.history.proofs.Update.{update_same, update_other, update_all}
+use Rattle.history.specs.Events.{gave}
+use Rattle.history.specs.PlainLists.{Trays, told, without, shifted, reply, after, Inserted, here, later, Rightly, OnBoard, Change, ByOne, Means, PlainChange}
+use Rattle.history.proofs.Update.{update_same, update_other}
 
 inserted_at : (i x : ℕ) (xs : List ℕ) → Inserted x xs (take i xs ++ x ∷ drop i xs)
 inserted_at zero x xs = here

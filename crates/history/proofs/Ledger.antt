@@ -6,8 +6,8 @@ use mathlib.Core.List.{List, [], ◌∷◌}
 use Prim.Native.Nat.{ℕ, ◌+◌, ◌<◌, ◌≤◌}
 use native.Mathlib.Omega.{arith}
 use native.Mathlib.Decide.{ℕ_discrete}
-use Rattle.records.specs.declared.wish.Wish.{Wish}
-use Rattle.records.specs.declared.wish.Wish.TheVariants.{Put, Take, Move}
+use Rattle.records.specs.declared.scanner.Wish.{Wish}
+use Rattle.records.specs.declared.scanner.Wish.TheVariants.{Put, Take, Move}
 use Rattle.kinds.specs.Plain.{Rule, Given, nothing, gives, yields}
 use Rattle.history.specs.Update.{update}
 use Rattle.history.specs.Events.{Answer, gave, was_empty, worn, Event, handed, quiet, caused, answered, Story, Hands, Replies, causes, hand_ins, Numbered, Handed, Answered, changes, effects, Precedes}

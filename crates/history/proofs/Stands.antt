@@ -2,7 +2,7 @@
 use mathlib.Core.Path.{◌≡◌}
 use mathlib.Core.Bool.{Bool}
 use Prim.Native.Nat.{ℕ}
-use Rattle.records.specs.declared.wish.Wish.{Wish}
+use Rattle.records.specs.declared.scanner.Wish.{Wish}
 
 pub data Stand : Type 0 where
   -- no request in work

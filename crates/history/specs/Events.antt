@@ -1,6 +1,6 @@
 -- What happened on a day, as a list of events. A request goes by its number: requests are numbered from 0 as they are handed in.
 use Rattle.std.specs.Prelude.{◌≡◌, ◌⊎◌, cond, List, [], ◌∷◌, ℕ, ◌+◌, eqb}
-use Rattle.records.specs.declared.wish.Wish.{Wish}
+use Rattle.records.specs.declared.scanner.Wish.{Wish}
 
 -- What a request is told: the parcel that it put, took or moved; that its tray was empty; or that it is worn, since no descriptor was left.
 pub data Answer : Type 0 where

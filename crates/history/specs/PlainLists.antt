@@ -1,7 +1,7 @@
 -- The plain lists: one list of parcels for each tray, and requests that are done one after the other, each at once.
 use Rattle.std.specs.Prelude.{◌≡◌, ◌≢◌, List, [], ◌∷◌, ℕ, ◌<◌}
-use Rattle.records.specs.declared.wish.Wish.{Wish}
-use Rattle.records.specs.declared.wish.Wish.TheVariants.{Put, Take, Move}
+use Rattle.records.specs.declared.scanner.Wish.{Wish}
+use Rattle.records.specs.declared.scanner.Wish.TheVariants.{Put, Take, Move}
 use Rattle.kinds.specs.Plain.{Rule, Within, adds, Given, nothing, gives, yields}
 use Rattle.history.specs.Update.{update}
 use Rattle.history.specs.Events.{Answer, gave, was_empty, worn}

@@ -1,6 +1,6 @@
 -- The two promises about a day: one order explains all answers, and every request causes exactly its one change.
 use Rattle.std.specs.Prelude.{◌≡◌, ◌⊎◌, cond, List, [], ◌∷◌, ℕ, ◌+◌, ◌<◌, ◌≤◌, eqb}
-use Rattle.records.specs.declared.wish.Wish.{Wish}
+use Rattle.records.specs.declared.scanner.Wish.{Wish}
 use Rattle.kinds.specs.Plain.{Rule}
 use Rattle.history.specs.Events.{Answer, gave, was_empty, worn, Event, handed, quiet, caused, answered, Story, Numbered, Handed, Answered, changes, effects, Precedes}
 use Rattle.history.specs.PlainLists.{Trays, Entry, run, Explains, Change}

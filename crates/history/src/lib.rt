@@ -1,4 +1,6 @@
 // What happened on a day, the plain lists that explain it, and the promises about it.
+#![tactic(auto)]
+
 ghost use Rattle.history.specs.PlainLists.{PlainChange};
 ghost use Rattle.history.specs.Promises.{OrderCarries};
 

@@ -10,5 +10,6 @@ use kinds::kind::TrayKind;
 pub fn put_then_take<K: TrayKind>() -> u8
     ensures { (k : ℕ) → PutThenTake (K.TrayKind.plan k) }
 {
+    K::show_points();
     0
 }

@@ -63,6 +63,7 @@ pub trait TrayKind {
     fn most_acts(kind: u32) -> u32
         ensures { result ≡ (plan kind).most };
 
-    // what every kind shows, of everything that can have come about at a tray
-    ghost points: { (k : ℕ) → Points (plan k) };
+    // The law of kinds: what every kind shows, of everything that can have come about at a tray. It does nothing when it runs.
+    fn show_points()
+        ensures { (k : ℕ) → Points (plan k) };
 }

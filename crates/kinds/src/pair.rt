@@ -1,6 +1,5 @@
 // Two kinds as one: number 0 is the first, and j + 1 is number j of the second.
 ghost use Rattle.kinds.specs.Plans.{pick};
-ghost use Rattle.std.proofs.Common.{rules};
 
 use crate::acts::{Found, Notes, PutAct, TakeAct};
 use crate::kind::{Opening, TrayKind};
@@ -15,8 +14,6 @@ pub struct Pair<A, B> {
 
 impl<A: TrayKind, B: TrayKind> TrayKind for Pair<A, B> {
     ghost plan = { pick A.TrayKind.plan B.TrayKind.plan };
-
-    ghost points = { Prim.search rules };
 
     fn takes_node(kind: u32) -> bool {
         if kind == 0 {
@@ -112,5 +109,10 @@ impl<A: TrayKind, B: TrayKind> TrayKind for Pair<A, B> {
         } else {
             B::most_acts(kind - 1)
         }
+    }
+
+    fn show_points() {
+        A::show_points();
+        B::show_points();
     }
 }

@@ -114,8 +114,8 @@ mod tests {
         let packed = pack(rt.alloc(), b"C\nN 1\n")?;
         let file = SessionFile::open(packed.as_slice())?;
         assert!(rt; file.count() == 2);
-        assert!(rt; file.text(0) == b"C");
-        assert!(rt; file.text(1) == b"N 1");
+        assert!(rt; file.text(0) == b"C".as_slice());
+        assert!(rt; file.text(1) == b"N 1".as_slice());
         Ok(())
     }
 }

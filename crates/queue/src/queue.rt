@@ -2,9 +2,6 @@
 // then tail is set right; a take makes head's next node the leading one.
 ghost use Rattle.std.specs.Prelude.{◌≡◌};
 ghost use Rattle.queue.specs.Queue.{head_at, tail_at, next_at, queue_plan};
-ghost use Rattle.kinds.proofs.FromFacts;
-ghost use Rattle.queue.specs.Facts.{queue_way};
-ghost use Rattle.queue.specs.Steady.{queue_steady};
 
 use kinds::acts::{Found, Notes, PutAct, TakeAct};
 use kinds::kind::{Opening, TrayKind};
@@ -51,8 +48,6 @@ fn tail_swap(tray: u32, old: u32, new: u32) -> Swap
 
 impl TrayKind for Queue {
     ghost plan = { λ k. queue_plan };
-
-    ghost points = { λ k. FromFacts.points queue_plan queue_way queue_steady };
 
     fn takes_node(_kind: u32) -> bool {
         true
@@ -168,4 +163,6 @@ impl TrayKind for Queue {
     fn most_acts(_kind: u32) -> u32 {
         Queue::MOST_ACTS
     }
+
+    fn show_points() {}
 }

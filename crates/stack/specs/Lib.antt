@@ -1,4 +1,1 @@
 pub mod Stack
-pub mod Facts
-pub mod Shown
-pub mod Staying

@@ -1,9 +1,6 @@
 // The parcels run from the tray's first word along the next words of its nodes.
 ghost use Rattle.std.specs.Prelude.{◌≡◌};
 ghost use Rattle.stack.specs.Stack.{stack_plan, top_at};
-ghost use Rattle.kinds.proofs.FromFacts;
-ghost use Rattle.stack.specs.Facts.{stack_way};
-ghost use Rattle.stack.specs.Shown.{stack_steady};
 
 use kinds::acts::{Found, Notes, PutAct, TakeAct};
 use kinds::kind::{Opening, TrayKind};
@@ -25,8 +22,6 @@ fn top_at(tray: u32) -> u32
 
 impl TrayKind for Stack {
     ghost plan = { λ k. stack_plan };
-
-    ghost points = { λ k. FromFacts.points stack_plan stack_way stack_steady };
 
     fn takes_node(_kind: u32) -> bool {
         false
@@ -108,4 +103,6 @@ impl TrayKind for Stack {
     fn most_acts(_kind: u32) -> u32 {
         Stack::MOST_ACTS
     }
+
+    fn show_points() {}
 }

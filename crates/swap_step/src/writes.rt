@@ -26,11 +26,11 @@ pub fn apply(write: Write, words: &mut [u32], nodes: &mut [Node], descriptors: &
 }
 
 // Writes the result of the descriptor at a place.
-pub fn write_result(descriptors: &mut [Descriptor], place: u32, res: u32)
-    ensures { descriptors.new ≡ results_with descriptors.old place res }
+pub fn write_result(descriptors: &mut [Descriptor], place: u32, outcome: u32)
+    ensures { descriptors.new ≡ results_with descriptors.old place outcome }
 {
     let index = place as usize;
     if place >= 1 && index <= descriptors.len() {
-        descriptors[index - 1].result = res;
+        descriptors[index - 1].result = outcome;
     }
 }

@@ -1,4 +1,6 @@
 // How long a scanner waits after a failed commit.
+#![tactic(auto)]
+
 ghost use Rattle.std.specs.Prelude.{◌≡◌};
 ghost use Rattle.waits.specs.Waits.{turns_after, Doubling};
 

@@ -5,8 +5,8 @@ use Rattle.memory.specs.Meaning.{stands_for}
 use Rattle.kinds.specs.Views.{Owned}
 use Rattle.kinds.proofs.Keeping.{reached_held}
 use Rattle.queue.specs.Queue.{queue_plan}
-use Rattle.queue.specs.Facts.{queue_way}
-use Rattle.queue.specs.Steady.{queue_steady}
+use Rattle.queue.proofs.Facts.{queue_way}
+use Rattle.queue.proofs.Steady.{queue_steady}
 use Rattle.walk_laws.specs.Seeing.{view_of}
 use Rattle.walk_laws.specs.Contents.{WalkGivesQueue}
 use Rattle.walk_laws.proofs.Walking.{word_stands, tray_stands, unchained, walk_gives_parcels}

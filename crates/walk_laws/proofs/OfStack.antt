@@ -3,8 +3,8 @@ use Rattle.std.proofs.Common.{◌*◌, arith}
 use Rattle.kinds.proofs.Keeping.{reached_held}
 use Rattle.kinds.proofs.Distinct.{In}
 use Rattle.stack.specs.Stack.{stack_plan}
-use Rattle.stack.specs.Facts.{stack_way}
-use Rattle.stack.specs.Shown.{stack_steady}
+use Rattle.stack.proofs.Facts.{stack_way}
+use Rattle.stack.proofs.Shown.{stack_steady}
 use Rattle.walk_laws.specs.Seeing.{view_of}
 use Rattle.walk_laws.specs.Contents.{WalkGivesStack}
 use Rattle.walk_laws.proofs.Walking.{tray_stands, unchained, walk_gives_parcels}

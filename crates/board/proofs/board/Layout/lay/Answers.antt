@@ -16,5 +16,5 @@ returns g c =
       answer = search rules;
       board = search rules;
       after = search rules;
-      law = equals_laid c.args.kind n t laid (laid_lawful plan g.met.K.TrayKind.points n t c.args.kind c.args.self.now.board.kind_digits) _ _ _ (search rules) (search rules) (search rules);
+      law = equals_laid c.args.kind n t laid (laid_lawful plan c.show_points.ensures n t c.args.kind c.args.self.now.board.kind_digits) _ _ _ (search rules) (search rules) (search rules);
     }

@@ -6,7 +6,7 @@ use Rattle.kinds.specs.Plans.{Slot, idle, parked, puts, rests, takes}
 use Rattle.kinds.proofs.Ways.{Each, node, Fits}
 use Rattle.kinds.proofs.Distinct.{In}
 use Rattle.kinds.proofs.Chains.{Chain, NodesStay, chain_kept}
-use Rattle.stack.specs.Facts.{Pile, PutNoted, Met, TakeNoted, stack_way}
+use Rattle.stack.proofs.Facts.{Pile, PutNoted, Met, TakeNoted, stack_way}
 
 -- The nodes that were ever linked have the next words and parcels that they had.
 abbrev pub LinkedKept : View → View → List ℕ → Type 0

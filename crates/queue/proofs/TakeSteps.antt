@@ -11,11 +11,11 @@ use Rattle.kinds.specs.Points.{TakeKeeps}
 use Rattle.kinds.proofs.Steady.{OnTakeRead, OnTakeTidy, OnTakeCommit, OnEmpty, Stays}
 use Rattle.kinds.proofs.Chains.{Chain}
 use Rattle.queue.specs.Queue.{take_end, take_acts, take_notes, queue_plan}
-use Rattle.queue.specs.Leads.{here, leads_end}
-use Rattle.queue.specs.Facts.{Line, NextNoted, next_noted, ParcelNoted, TakeNoted, queue_way}
-use Rattle.queue.specs.Moves.{tail_stays, head_takes, apart_head}
-use Rattle.queue.specs.Exact.{take_exactly, take_exact, take_one, finds_word, no_peek, on_take_read}
-use Rattle.queue.specs.Sharing.{Alone, head_shared, tail_shared, next_shared, reads, tail_swaps}
+use Rattle.queue.proofs.Leads.{here, leads_end}
+use Rattle.queue.proofs.Facts.{Line, NextNoted, next_noted, ParcelNoted, TakeNoted, queue_way}
+use Rattle.queue.proofs.Moves.{tail_stays, head_takes, apart_head}
+use Rattle.queue.proofs.Exact.{take_exactly, take_exact, take_one, finds_word, no_peek, on_take_read}
+use Rattle.queue.proofs.Sharing.{Alone, head_shared, tail_shared, next_shared, reads, tail_swaps}
 
 -- what notes say of a take
 abbrev Says : View → ℕ → Notes → Bool → Type 0

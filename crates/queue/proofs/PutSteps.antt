@@ -7,12 +7,12 @@ use Rattle.kinds.specs.Plans.{start, found_nothing, puts, rests, finds}
 use Rattle.kinds.specs.Points.{Shared, PutKeeps}
 use Rattle.kinds.proofs.Steady.{OnPutRead, OnPutTidy, OnPutCommit, Stays}
 use Rattle.queue.specs.Queue.{put_acts, put_notes, queue_plan}
-use Rattle.queue.specs.Leads.{Leads, here}
-use Rattle.queue.specs.Facts.{Line, next_noted, PutNoted, Apart, queue_way}
-use Rattle.queue.specs.Onward.{tail_chain, same_still, covers_any, still_stays, Any}
-use Rattle.queue.specs.Moves.{tail_stays, link_stays, apart_tail}
-use Rattle.queue.specs.Sharing.{Alone, tail_shared, next_shared, reads, tail_swaps}
-use Rattle.queue.specs.Exact.{put_exactly, put_exact, put_one, finds_word, wrote_same, no_peek, on_put_read}
+use Rattle.queue.proofs.Leads.{Leads, here}
+use Rattle.queue.proofs.Facts.{Line, next_noted, PutNoted, Apart, queue_way}
+use Rattle.queue.proofs.Onward.{tail_chain, same_still, covers_any, still_stays, Any}
+use Rattle.queue.proofs.Moves.{tail_stays, link_stays, apart_tail}
+use Rattle.queue.proofs.Sharing.{Alone, tail_shared, next_shared, reads, tail_swaps}
+use Rattle.queue.proofs.Exact.{put_exactly, put_exact, put_one, finds_word, wrote_same, no_peek, on_put_read}
 
 -- what notes say of a put
 abbrev Says : View → ℕ → Notes → Type 0

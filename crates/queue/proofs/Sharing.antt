@@ -5,8 +5,8 @@ use Rattle.kinds.specs.Views.{View, Owned, at_first, at_second, at_next}
 use Rattle.kinds.specs.Points.{Shared, Reads, Swaps}
 use Rattle.kinds.proofs.Steady.{HeldPrivate}
 use Rattle.queue.specs.Queue.{queue_plan}
-use Rattle.queue.specs.Facts.{Apart, queue_way}
-use Rattle.queue.specs.Exact.{no_peek}
+use Rattle.queue.proofs.Facts.{Apart, queue_way}
+use Rattle.queue.proofs.Exact.{no_peek}
 
 -- the nodes that puts have to themselves
 abbrev pub Alone : ℕ → View → ℕ → Type 0

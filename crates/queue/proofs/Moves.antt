@@ -8,9 +8,9 @@ use Rattle.kinds.proofs.Ways.{Each, Fits}
 use Rattle.kinds.proofs.Steady.{Stays}
 use Rattle.kinds.proofs.Held.{owned_kept}
 use Rattle.kinds.proofs.Chains.{Chain, chain_kept}
-use Rattle.queue.specs.Leads.{Leads, here, step, leads_eq, leads_end, leads_join, leads_past, leads_on, no_circle, circle, leads_chain, leads_back, chain_off, blank_still, linked_owned, linked_nexts, leads_linked, chain_linked}
-use Rattle.queue.specs.Facts.{Line, Apart, queue_way}
-use Rattle.queue.specs.Onward.{Onward, way_on, each_on, tail_chain, apart_words, lag_words, refilled_still, still_stays}
+use Rattle.queue.proofs.Leads.{Leads, here, step, leads_eq, leads_end, leads_join, leads_past, leads_on, no_circle, circle, leads_chain, leads_back, chain_off, blank_still, linked_owned, linked_nexts, leads_linked, chain_linked}
+use Rattle.queue.proofs.Facts.{Line, Apart, queue_way}
+use Rattle.queue.proofs.Onward.{Onward, way_on, each_on, tail_chain, apart_words, lag_words, refilled_still, still_stays}
 
 -- Tail moves from x to the node behind it, y.
 module _ (t : ℕ) (V V' : View) (xs : List ℕ) (h : Line t V tt xs) (x y : ℕ) (ox : Owned V t x) (oy : Owned V t y) (behind : V.word (64 + x) ≡ y) (at : V.word (2 * t + 1) ≡ x) (w : Wrote V V' (2 * t + 1) y) where

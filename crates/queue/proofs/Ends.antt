@@ -9,10 +9,10 @@ use Rattle.kinds.specs.Views.{View, Same}
 use Rattle.kinds.specs.Plans.{start, finds}
 use Rattle.kinds.specs.Points.{Exactly, hit, miss, PutAlone, TakeAlone, PutEnds, TakeEnds}
 use Rattle.queue.specs.Queue.{take_end, put_notes, take_notes, queue_plan}
-use Rattle.queue.specs.Leads.{here, leads_eq, no_circle, next_owned}
-use Rattle.queue.specs.Facts.{Line}
-use Rattle.queue.specs.Onward.{tail_chain}
-use Rattle.queue.specs.Exact.{put_exactly, put_exact, take_exactly, take_exact, finds_word, wrote_same}
+use Rattle.queue.proofs.Leads.{here, leads_eq, no_circle, next_owned}
+use Rattle.queue.proofs.Facts.{Line}
+use Rattle.queue.proofs.Onward.{tail_chain}
+use Rattle.queue.proofs.Exact.{put_exactly, put_exact, take_exactly, take_exact, finds_word, wrote_same}
 
 abbrev put_at : ℕ → ℕ → ℕ → Notes
 put_at k x y = record { stage = k; one = x; two = y; three = 0; parcel = 0 }

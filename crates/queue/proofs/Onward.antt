@@ -7,8 +7,8 @@ use Rattle.kinds.proofs.Ways.{Each, node, Fits}
 use Rattle.kinds.proofs.Steady.{Stays}
 use Rattle.kinds.proofs.Held.{same_elsewhere, refilled_kept, took_kept}
 use Rattle.kinds.proofs.Chains.{Chain, chain_kept}
-use Rattle.queue.specs.Leads.{Leads, leads_eq, leads_join, leads_chain, leads_kept, leads_back}
-use Rattle.queue.specs.Facts.{Line, NextNoted, ParcelNoted, PutNoted, TailNoted, TakeNoted, Apart, queue_way}
+use Rattle.queue.proofs.Leads.{Leads, leads_eq, leads_join, leads_chain, leads_kept, leads_back}
+use Rattle.queue.proofs.Facts.{Line, NextNoted, ParcelNoted, PutNoted, TailNoted, TakeNoted, Apart, queue_way}
 
 -- Next words that are not nil stay, and head and tail only go forward.
 pub record Onward (t : ℕ) (V V' : View) : Type 0 where

@@ -11,7 +11,7 @@ use Rattle.kinds.specs.Views.{View, Same, Wrote}
 use Rattle.kinds.specs.Plans.{finds}
 use Rattle.kinds.proofs.Steady.{OnPutRead, OnTakeRead}
 use Rattle.queue.specs.Queue.{head_at, tail_at, next_at, put_acts, take_acts, queue_plan}
-use Rattle.queue.specs.Facts.{PutNoted, TakeNoted}
+use Rattle.queue.proofs.Facts.{PutNoted, TakeNoted}
 
 pub head_exact : (t : ℕ) → t < 32 → head_at t ≡ 2 * t
 head_exact t lt = omega arith

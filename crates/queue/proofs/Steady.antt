@@ -9,15 +9,15 @@ use Rattle.kinds.specs.Runs.{Opened}
 use Rattle.kinds.proofs.Steady.{Steady}
 use Rattle.kinds.proofs.Chains.{Chain, chain_walk}
 use Rattle.queue.specs.Queue.{queue_plan}
-use Rattle.queue.specs.Leads.{leads_eq}
-use Rattle.queue.specs.Facts.{Line, queue_way}
-use Rattle.queue.specs.Onward.{Any, covers_any, elsewhere_still, took_still, line_still, each_still}
-use Rattle.queue.specs.Moves.{tail_stays, refilled_stays, took_apart}
-use Rattle.queue.specs.Exact.{tail_exact}
-use Rattle.queue.specs.Sharing.{tail_swaps}
-use Rattle.queue.specs.PutSteps.{put_reads, put_tidies, put_tidied_not, put_commits, put_keeps}
-use Rattle.queue.specs.TakeSteps.{take_reads, take_tidies, take_tidied_not, take_commits, empty_seen, take_keeps}
-use Rattle.queue.specs.Ends.{put_ends, take_ends}
+use Rattle.queue.proofs.Leads.{leads_eq}
+use Rattle.queue.proofs.Facts.{Line, queue_way}
+use Rattle.queue.proofs.Onward.{Any, covers_any, elsewhere_still, took_still, line_still, each_still}
+use Rattle.queue.proofs.Moves.{tail_stays, refilled_stays, took_apart}
+use Rattle.queue.proofs.Exact.{tail_exact}
+use Rattle.queue.proofs.Sharing.{tail_swaps}
+use Rattle.queue.proofs.PutSteps.{put_reads, put_tidies, put_tidied_not, put_commits, put_keeps}
+use Rattle.queue.proofs.TakeSteps.{take_reads, take_tidies, take_tidied_not, take_commits, empty_seen, take_keeps}
+use Rattle.queue.proofs.Ends.{put_ends, take_ends}
 
 opens : (t n : ℕ) (V : View) → Opened queue_plan t n V → Line t V tt []
 opens t n V o = record {

@@ -12,8 +12,8 @@ use Rattle.kinds.proofs.Held.{owned_kept, refilled_kept, took_kept}
 use Rattle.kinds.proofs.Distinct.{In}
 use Rattle.kinds.proofs.Chains.{Chain, chain_taken, chain_walk}
 use Rattle.stack.specs.Stack.{top_at, stack_plan}
-use Rattle.stack.specs.Facts.{Pile, PutNoted, Met, TakeNoted, stack_way}
-use Rattle.stack.specs.Staying.{linked_kept, chain_more, pile_kept, each_kept, elsewhere_linked, elsewhere_own, words_own, took_linked, refilled_linked, fill_linked, fill_own, top_linked, top_own, each_more, nodes_more}
+use Rattle.stack.proofs.Facts.{Pile, PutNoted, Met, TakeNoted, stack_way}
+use Rattle.stack.proofs.Staying.{linked_kept, chain_more, pile_kept, each_kept, elsewhere_linked, elsewhere_own, words_own, took_linked, refilled_linked, fill_linked, fill_own, top_linked, top_own, each_more, nodes_more}
 
 abbrev notes : ℕ → ℕ → ℕ → ℕ → ℕ → Notes
 notes k x y z p = record { stage = k; one = x; two = y; three = z; parcel = p }

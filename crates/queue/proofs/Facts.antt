@@ -3,7 +3,7 @@ use Rattle.std.specs.Prelude.{◌≡◌, ℕ, zero, suc, ◌+◌, ◌*◌, ◌<�
 use Rattle.kinds.specs.Views.{View, Owned}
 use Rattle.kinds.proofs.Ways.{Way}
 use Rattle.kinds.proofs.Chains.{Chain}
-use Rattle.queue.specs.Leads.{Leads, next_owned}
+use Rattle.queue.proofs.Leads.{Leads, next_owned}
 
 pub record Line (t : ℕ) (V : View) (g : Unit {0}) (xs : List ℕ) : Type 0 where
   pub tray : t < 32

@@ -1,0 +1,10 @@
+pub mod Leads
+pub mod Facts
+pub mod Onward
+pub mod Moves
+pub mod Exact
+pub mod Sharing
+pub mod PutSteps
+pub mod TakeSteps
+pub mod Ends
+pub mod Steady
