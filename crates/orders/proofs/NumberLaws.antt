@@ -4,7 +4,7 @@ use Rattle.std.proofs.lemmas.Fmt.{decimal_digit, decimal-digits_value, decimal_n
 use Rattle.std.proofs.lemmas.List.{drop_more, drop_at, drop_all, drop-drop, get_or-drop, get_or_append_left}
 use Rattle.std.proofs.lemmas.Bool.{and_parts, and_from, both_ways, cond-true, cond-false, eq-eqb, ne_eqb, eqb-true, eqb-false, leb-true, le-leb, cases_lt}
 use Rattle.std.specs.Char.{is_ascii_digit}
-use Rattle.std.specs.List.{flat_map, AllByRecursion as All}
+use Rattle.std.specs.List.{flat_map, AllByRecursion}
 use Rattle.std.specs.Str.{all_ascii_digits}
 use Rattle.refusals.specs.declared.refusal.Refusal.{Refusal}
 use Rattle.refusals.specs.declared.refusal.Refusal.TheVariants.{Wording}
@@ -148,7 +148,7 @@ module _ (text : List ℕ) (from n : ℕ) (tail : List ℕ) (fits : n < 2 ^ 32) 
 pub record Listed (k : ℕ) (text : List ℕ) (from : ℕ) (ns : List ℕ) : Type 0 where
   pub spelt : drop from text ≡ flat_map word_of ns
   pub count : length ns ≡ k
-  pub fits : All (λ n. n < 2 ^ 32) ns
+  pub fits : AllByRecursion (λ n. n < 2 ^ 32) ns
 
 pub numbers_sound : (k : ℕ) (text : List ℕ) (from : ℕ) (ns : List ℕ) → numbers_of k text from ≡ Ok ns → Listed k text from ns
 numbers_sound zero text from ns e =
@@ -171,7 +171,7 @@ stops_before : (ns : List ℕ) → Stops (flat_map word_of ns)
 stops_before [] = refl
 stops_before (n ∷ ns) = refl
 
-pub numbers_complete : (ns text : List ℕ) (from : ℕ) → from ≤ length text → All (λ n. n < 2 ^ 32) ns → drop from text ≡ flat_map word_of ns → numbers_of (length ns) text from ≡ Ok ns
+pub numbers_complete : (ns text : List ℕ) (from : ℕ) → from ≤ length text → AllByRecursion (λ n. n < 2 ^ 32) ns → drop from text ≡ flat_map word_of ns → numbers_of (length ns) text from ≡ Ok ns
 numbers_complete [] text from h fits e = cond-true _ _ _ (eq-eqb from (length text) (omega (arith, length-drop from text, ap length e)))
 numbers_complete (n ∷ ns) text from h fits e =
     let tail = flat_map word_of ns in

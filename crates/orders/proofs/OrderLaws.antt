@@ -2,7 +2,7 @@
 use Rattle.std.proofs.Common.{◌≡◌, ℕ, zero, suc, ◌+◌, ◌^◌, ◌<◌, ◌≤◌, Bool, true, false, cond, eqb, List, [], ◌∷◌, length, get_or, drop, Ok, Err, Result, sym, refl, ap, ◌∙◌, subst, arith, MatchResult}
 use Rattle.std.proofs.lemmas.List.{drop_all, drop_more}
 use Rattle.std.proofs.lemmas.Bool.{eqb-true}
-use Rattle.std.specs.List.{flat_map, AllByRecursion as All}
+use Rattle.std.specs.List.{flat_map, AllByRecursion}
 use Rattle.refusals.specs.declared.refusal.Refusal.{Refusal}
 use Rattle.refusals.specs.declared.refusal.Refusal.TheVariants.{Wording}
 use Rattle.orders.specs.declared.order.Order.{Order}
@@ -39,7 +39,7 @@ module _ (text : List ℕ) (some : 0 < length text) where
         let has = parts ns listed.count in
         let first : get_or text 0 0 ≡ letter_of (make ns) = eqb-true _ _ t ∙ sym has.0 in
         let rest : drop 1 text ≡ flat_map word_of (numbers_in (make ns)) = listed.spelt ∙ ap (flat_map word_of) (sym has.1) in
-        (subst (All (λ n. n < 2 ^ 32)) (sym has.1) listed.fits, drop_more text 0 0 some ∙ (λ j. first j ∷ rest j))
+        (subst (AllByRecursion (λ n. n < 2 ^ 32)) (sym has.1) listed.fits, drop_more text 0 0 some ∙ (λ j. first j ∷ rest j))
     arm_at (Err d) e = subst ByWording e (of_numbers k text 1)
 
     arm : Sound text (on_ok (numbers_of k text 1) (λ ns. Ok (make ns)))
@@ -61,7 +61,7 @@ order_sound [] = refl
 order_sound (b ∷ rest) = sound (b ∷ rest) (omega arith)
 
 -- the numbers of a spelled order are read back
-back : (letter : ℕ) (ns : List ℕ) (make : List ℕ → Order) → All (λ n. n < 2 ^ 32) ns → on_ok (numbers_of (length ns) (letter ∷ flat_map word_of ns) 1) (λ ms. Ok (make ms)) ≡ Ok (make ns)
+back : (letter : ℕ) (ns : List ℕ) (make : List ℕ → Order) → AllByRecursion (λ n. n < 2 ^ 32) ns → on_ok (numbers_of (length ns) (letter ∷ flat_map word_of ns) 1) (λ ms. Ok (make ms)) ≡ Ok (make ns)
 back letter ns make s = ap (λ r. on_ok r λ ms. Ok (make ms)) (numbers_complete ns (letter ∷ flat_map word_of ns) 1 (omega arith) s refl)
 
 spelled_read : (o : Order) → Small o → order_of (spelled o) ≡ Ok o

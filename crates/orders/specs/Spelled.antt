@@ -1,6 +1,6 @@
 -- How an order is spelled.
 use Rattle.std.specs.Prelude.{◌≡◌, ℕ, ◌^◌, ◌<◌, List, [], ◌∷◌, decimal, Result, MatchResult}
-use Rattle.std.specs.List.{flat_map, AllByRecursion as All}
+use Rattle.std.specs.List.{flat_map, AllByRecursion}
 use Rattle.refusals.specs.declared.refusal.Refusal.{Refusal}
 use Rattle.refusals.specs.declared.refusal.Refusal.TheVariants.{Wording}
 use Rattle.orders.specs.declared.order.Order.{Order}
@@ -26,7 +26,7 @@ spelled o = letter_of o ∷ flat_map word_of (numbers_in o)
 
 -- each number fits 32 bits
 abbrev pub Small : Order → Type 0
-Small o = All (λ n. n < 2 ^ 32) (numbers_in o)
+Small o = AllByRecursion (λ n. n < 2 ^ 32) (numbers_in o)
 
 -- the text is an order's
 abbrev pub Says : List ℕ → Order → Type 0

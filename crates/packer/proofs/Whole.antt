@@ -1,6 +1,6 @@
 -- The lines of a text are its pieces.
 use Rattle.std.proofs.Common.{◌≡◌, ℕ, cond, eqb, List, [], ◌∷◌, sym, refl, ap, ◌∙◌, inl, inr, arith}
-use Rattle.std.specs.List.{AllByRecursion as All}
+use Rattle.std.specs.List.{AllByRecursion}
 use Rattle.std.proofs.lemmas.Bool.{cases_Bool, eqb-true, eqb-false}
 use Rattle.packer.specs.Lines.{onto, lines_of}
 use Rattle.packer.specs.Pieces.{with_feeds, ended, Pieces}
@@ -24,7 +24,7 @@ whole (b ∷ (c ∷ rest)) =
     ]
 
 abbrev NoFeed : List (List ℕ) → Type 0
-NoFeed ls = All (λ line. All (λ b. b ≡ 10 → ⊥) line) ls
+NoFeed ls = AllByRecursion (λ line. AllByRecursion (λ b. b ≡ 10 → ⊥) line) ls
 
 onto_none : (b : ℕ) (ls : List (List ℕ)) → (b ≡ 10 → ⊥) → NoFeed ls → NoFeed (onto b ls)
 onto_none b [] ne h = ((ne, tt), tt)

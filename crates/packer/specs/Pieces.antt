@@ -1,6 +1,6 @@
 -- What the lines of a text are: none holds a line feed, and each with a line feed behind it, they are the text.
 use Rattle.std.specs.Prelude.{◌≡◌, ℕ, cond, List, [], ◌∷◌, ◌++◌, ◌==◌, ◌≢◌}
-use Rattle.std.specs.List.{AllByRecursion as All}
+use Rattle.std.specs.List.{AllByRecursion}
 use Rattle.packer.specs.Lines.{lines_of}
 
 -- each line, and a line feed behind it
@@ -16,4 +16,4 @@ ended (b ∷ (c ∷ rest)) = b ∷ ended (c ∷ rest)
 
 pub record Pieces (text : List ℕ) : Type 0 where
   pub whole : with_feeds (lines_of text) ≡ ended text
-  pub no_feed : All (λ line. All (λ b. b ≢ 10) line) (lines_of text)
+  pub no_feed : AllByRecursion (λ line. AllByRecursion (λ b. b ≢ 10) line) (lines_of text)
