@@ -7,6 +7,7 @@ use packer::fault::PackFault;
 use packer::pack::pack;
 use session::play::play;
 use std::io::Write;
+use std::process::ExitCode;
 use std::{env, fs};
 
 const HELP: &str = "depot plays a session of a parcel depot's dispatch board.
@@ -88,12 +89,13 @@ fn run(rt: &HostRuntime) -> anyhow::Result<()> {
 }
 
 // An error is printed on standard error, and the program ends with status 1.
-fn main(rt: HostRuntime) -> anyhow::Result<()> {
+fn main(rt: HostRuntime) -> ExitCode {
     match run(&rt) {
-        Ok(()) => Ok(()),
+        Ok(()) => ExitCode::SUCCESS,
         Err(error) => {
-            eprintln!(rt; "depot: {error}")?;
-            Err(error)
+            // where standard error cannot be written, the status alone says it
+            let _ = eprintln!(rt; "depot: {error}");
+            ExitCode::FAILURE
         }
     }
 }
