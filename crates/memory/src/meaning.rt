@@ -21,14 +21,14 @@ pub enum Outcome {
 }
 
 // What the number says as a result of the descriptor at a place: none where it is no result of it.
-pub fn tell_outcome(descriptor: u32, res: u32) -> Option<Outcome>
-    ensures { result ≡ outcome_of descriptor res }
+pub fn tell_outcome(descriptor: u32, word: u32) -> Option<Outcome>
+    ensures { result ≡ outcome_of descriptor word }
 {
-    match res {
+    match word {
         1 => Some(Outcome::Undecided),
         2 => Some(Outcome::Success),
         3 => Some(Outcome::SecondFailed),
-        _ => match tell(res) {
+        _ => match tell(word) {
             Some(
                 Word::Mark {
                     scanner,

@@ -19,19 +19,19 @@ table_after table taken value = cond (has_place (length table) taken) (slice_set
 
 -- What taking a place means: the place was not taken before and lies in the table, it is taken afterwards and holds the value,
 -- and every other place is as it was. None is answered only where every place that a word can name is taken.
-pub record Takes {T : Type 0} (before after : List T) (taken TakenThen : ℕ) (value : T) (place : ℕ) : Type 0 where
+pub record Takes {T : Type 0} (before after : List T) (taken taken_then : ℕ) (value : T) (place : ℕ) : Type 0 where
   pub untaken : taken < place
   pub within : place ≤ length before
   pub named : place ≤ 4095
-  pub next : TakenThen ≡ place
+  pub next : taken_then ≡ place
   pub holds : (d : T) → slice_index_or after (place - 1) d ≡ value
   pub others : (n : ℕ) (d : T) → (n ≢ place - 1) → slice_index_or after n d ≡ slice_index_or before n d
 
-pub record Full {T : Type 0} (before after : List T) (taken TakenThen : ℕ) : Type 0 where
+pub record Full {T : Type 0} (before after : List T) (taken taken_then : ℕ) : Type 0 where
   pub all_taken : min (length before) 4095 ≤ taken
   pub unchanged : after ≡ before
-  pub none_more : TakenThen ≡ taken
+  pub none_more : taken_then ≡ taken
 
 abbrev pub Taken : {T : Type 0} → List T → List T → ℕ → ℕ → T → Option ℕ → Type 0
-Taken before after taken TakenThen value (Some place) = Takes before after taken TakenThen value place
-Taken before after taken TakenThen value None = Full before after taken TakenThen
+Taken before after taken taken_then value (Some place) = Takes before after taken taken_then value place
+Taken before after taken taken_then value None = Full before after taken taken_then
