@@ -5,8 +5,8 @@ usage: python3 tools/respell.py [--list]      at the top of the repository, once
 
 A name turns if a file of specs/ or a lemma file of proofs/ has it, it is none of the kit's, and it has a hyphen. `put-keeps` becomes `put_keeps`, and `Put-keeps` becomes
 `PutKeeps`. Names that the kit makes or has (goals, facts of a step, lemmas of std and mathlib) stay as they are, and so do functions of src/,
-strings, inputs and outputs. A must-fail edit turns with the file that it edits. --list prints the table and the names that would fall together,
-and writes nothing. It stops where two names would become one in a file.
+strings, inputs and outputs. A must-fail edit turns with the file that it edits. It names each file in which two words become one, for a reader to
+look at, and then ends with 1: a definition may have the name of a function or a field of src/. --list prints the table and these files, and writes nothing.
 """
 
 import os
@@ -79,27 +79,29 @@ def turner(rows):
     return lambda text: NAME.sub(turn, text)
 
 
-def turn_antt(text, turn):
+def turn_lines(text, mark, turn, turn_code):
+    """Turns the code of each line, and of its comment, which begins with mark, what stands in backquotes."""
     lines = []
     for line in text.split("\n"):
-        at = re.search(r"(?:^|(?<=\s))--", line)
+        at = re.search(rf"(?:^|(?<=\s)){mark}", line)
         code, comment = (line[: at.start()], line[at.start():]) if at else (line, "")
-        comment = re.sub(r"`[^`\n]*`", lambda m: "`" + turn(m[0][1:-1]) + "`", comment)
-        code = "".join(p if i % 2 else turn(p) for i, p in enumerate(re.split(r"(\"(?:[^\"\\]|\\.)*\")", code)))
-        lines.append(code + comment)
+        lines.append(turn_code(code) + re.sub(r"`[^`\n]*`", lambda m: "`" + turn(m[0][1:-1]) + "`", comment))
     return "\n".join(lines)
+
+
+def turn_antt(text, turn):
+    def turn_code(code):
+        return "".join(p if i % 2 else turn(p) for i, p in enumerate(re.split(r"(\"(?:[^\"\\]|\\.)*\")", code)))
+
+    return turn_lines(text, "--", turn, turn_code)
 
 
 def turn_rt(text, turn):
-    lines = []
-    for line in text.split("\n"):
-        at = re.search(r"(?:^|(?<=\s))//", line)
-        code, comment = (line[: at.start()], line[at.start():]) if at else (line, "")
-        comment = re.sub(r"`[^`\n]*`", lambda m: "`" + turn(m[0][1:-1]) + "`", comment)
-        if re.search(r"\b(?:ghost|requires|ensures)\b", code) or re.search(r"[≡≤≢λ→×]", code):
-            code = turn(code)
-        lines.append(code + comment)
-    return "\n".join(lines)
+    def turn_code(code):
+        is_ghost = re.search(r"\b(?:ghost|requires|ensures)\b", code) or re.search(r"[≡≤≢λ→×]", code)
+        return turn(code) if is_ghost else code
+
+    return turn_lines(text, "//", turn, turn_code)
 
 
 def turn_edit(text, turn):

@@ -39,7 +39,7 @@ causes r quiet = 0
 causes r (caused q) = cond (eqb q r) 1 0
 causes r (answered q a) = 0
 
--- 1 for a hand_in
+-- 1 for a hand-in
 abbrev pub hand_in : Event → ℕ
 hand_in (handed q v) = 1
 hand_in quiet = 0
