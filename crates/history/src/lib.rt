@@ -5,15 +5,11 @@ ghost use Rattle.history.specs.PlainLists.{PlainChange};
 ghost use Rattle.history.specs.Promises.{OrderCarries};
 
 // The plain lists change by the one parcel that their answer names, or not at all where the tray was empty.
-pub fn plain_lists_change_by_one() -> u8
+pub fn plain_lists_change_by_one()
     ensures { PlainChange }
-{
-    0
-}
+{}
 
 // Where one order explains all answers, each change is of the parcel that its request was answered with.
-pub fn answers_name_what_changed() -> u8
+pub fn answers_name_what_changed()
     ensures { OrderCarries }
-{
-    0
-}
+{}

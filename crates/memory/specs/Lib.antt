@@ -1,3 +1,5 @@
+pub mod Places
+pub mod Seen
 pub mod Addresses
 pub mod Reads
 pub mod Meaning

@@ -8,7 +8,8 @@ use Rattle.words.specs.Words.{told}
 use Rattle.records.specs.declared.entries.Descriptor.{Descriptor as Record}
 use Rattle.memory.specs.declared.meaning.Outcome.{Outcome}
 use Rattle.memory.specs.declared.meaning.Outcome.TheVariants.{Undecided, Success, SecondFailed, DecidedBy}
-use Rattle.memory.specs.Reads.{Seen, on_ok, node_at, descriptor_at}
+use Rattle.memory.specs.Seen.{Seen}
+use Rattle.memory.specs.Reads.{on_ok, node_at, descriptor_at}
 
 -- what a result of descriptor d says: 1 undecided, 2 success, 3 second failed, or one of d's marks
 abbrev pub own_mark : ℕ → Option Word → Option Outcome

@@ -4,37 +4,17 @@ use Rattle.refusals.specs.declared.refusal.Refusal.{Refusal}
 use Rattle.refusals.specs.declared.refusal.Refusal.TheVariants.{Torn}
 use Rattle.records.specs.declared.entries.Node.{Node}
 use Rattle.records.specs.declared.entries.Descriptor.{Descriptor}
-use Rattle.memory.specs.declared.view.Memory.{Memory}
 use Rattle.memory.specs.declared.address.Address.{Address}
 use Rattle.memory.specs.declared.address.Address.TheVariants.{TrayWord, NextWord}
 use Rattle.memory.specs.Addresses.{addressed}
+use Rattle.memory.specs.Places.{is_taken}
+use Rattle.memory.specs.Seen.{Seen}
 use Rattle.records.specs.Tables.{zero_node, zero_descriptor}
-
--- the memory by its lists and counts
-pub record Seen : Type 0 where
-  pub words : List ℕ
-  pub nodes : List Node
-  pub nodes_taken : ℕ
-  pub descriptors : List Descriptor
-  pub descriptors_taken : ℕ
-
-abbrev pub seen : Memory → Seen
-seen m = record {
-  words = m.words.now;
-  nodes = m.nodes.now;
-  nodes_taken = m.nodes_taken;
-  descriptors = m.descriptors.now;
-  descriptors_taken = m.descriptors_taken;
-}
 
 -- go on with what was found, or stop at the refusal
 abbrev pub on_ok : {A B E : Type 0} → Result A E → (A → Result B E) → Result B E
 on_ok (Ok a) k = k a
 on_ok (Err e) k = Err e
-
--- whether a place is taken, in a table of `room` places of which the first `taken` are
-abbrev pub is_taken : ℕ → ℕ → ℕ → Bool
-is_taken room taken place = nat_le 1 place && (nat_le place taken && nat_le place room)
 
 abbrev pub node_at : Seen → ℕ → Result Node Refusal
 node_at m n = cond (is_taken (length m.nodes) m.nodes_taken n) (Ok (slice_index_or m.nodes (n - 1) zero_node)) (Err Torn)

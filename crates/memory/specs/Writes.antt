@@ -7,7 +7,9 @@ use Rattle.records.specs.Tables.{zero_node}
 use Rattle.memory.specs.declared.address.Address.{Address}
 use Rattle.memory.specs.declared.address.Address.TheVariants.{TrayWord, NextWord}
 use Rattle.memory.specs.Addresses.{addressed}
-use Rattle.memory.specs.Reads.{Seen, is_taken, word_at}
+use Rattle.memory.specs.Places.{is_taken}
+use Rattle.memory.specs.Reads.{word_at}
+use Rattle.memory.specs.Seen.{Seen}
 
 abbrev pub written_at : List ℕ → List Node → ℕ → Option Address → Result (Unit {0}) Refusal
 written_at words nodes taken None = Err Torn

@@ -1,9 +1,12 @@
 // Addresses of words: tray t has addresses 2t and 2t + 1, and 64 + n is the next word of node n.
-ghost use Rattle.std.specs.Prelude.{◌≡◌};
+ghost use Rattle.std.specs.Prelude.{◌≡◌, Some, None, MatchResult};
+ghost use Rattle.refusals.specs.declared.refusal.Refusal.TheVariants.{Torn};
 ghost use Rattle.memory.specs.Addresses.{addressed};
 
+use refusals::refusal::Refusal;
+
 // Where a word stands.
-#[derive(Clone, Copy)]
+#[derive(Clone, Copy, PartialEq, Eq, Debug)]
 pub enum Address {
     // a word of the tray table, by its index
     TrayWord(u32),
@@ -11,13 +14,17 @@ pub enum Address {
     NextWord(u32),
 }
 
-// What the number says as an address: none where it is no address.
-pub fn tell_address(number: u32) -> Option<Address>
-    ensures { result ≡ addressed number }
-{
-    match number {
-        0..=63 => Some(Address::TrayWord(number)),
-        65..=4159 => Some(Address::NextWord(number - 64)),
-        _ => None,
+// What a number says as an address; a number that is no address is torn.
+impl TryFrom<u32> for Address {
+    type Error = Refusal;
+
+    fn try_from(number: u32) -> Result<Address, Refusal>
+        ensures { MatchResult result (λ a. addressed number ≡ Some a) (λ e. (e ≡ Torn) × (addressed number ≡ None)) }
+    {
+        match number {
+            0..=63 => Ok(Address::TrayWord(number)),
+            65..=4159 => Ok(Address::NextWord(number - 64)),
+            _ => Err(Refusal::Torn),
+        }
     }
 }

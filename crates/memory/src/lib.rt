@@ -4,5 +4,6 @@
 pub mod address;
 pub mod meaning;
 pub mod reads;
+pub mod taken;
 pub mod view;
 pub mod writes;

@@ -2,7 +2,7 @@
 ghost use Rattle.std.specs.Prelude.{◌≡◌};
 ghost use Rattle.memory.specs.Writes.{writes, words_with, nodes_with, shared, Written};
 
-use crate::address::{Address, tell_address};
+use crate::address::Address;
 use records::entries::Node;
 use refusals::refusal::Refusal;
 
@@ -19,12 +19,12 @@ pub fn write_word(
     ensures nodes { nodes.new ≡ nodes_with nodes.old nodes_taken address word }
     ensures law { Written (shared words.old nodes.old nodes_taken) (shared words.new nodes.new nodes_taken) address word result }
 {
-    match tell_address(address) {
-        Some(Address::TrayWord(index)) if (index as usize) < words.len() => {
+    match Address::try_from(address)? {
+        Address::TrayWord(index) if (index as usize) < words.len() => {
             words[index as usize] = word;
             Ok(())
         }
-        Some(Address::NextWord(place))
+        Address::NextWord(place)
             if place >= 1 && place <= nodes_taken && place as usize <= nodes.len() => {
             nodes[place as usize - 1].next = word;
             Ok(())

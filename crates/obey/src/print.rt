@@ -21,6 +21,6 @@ pub fn print_reply(
     match reply {
         Ok(Reply::Laid(tray)) => put_line(out, at, order, &[0, tray]),
         Ok(Reply::Started) => put_line(out, at, order, &[0]),
-        Err(refusal) => put_line(out, at, order, &[refusal.number()]),
+        Err(refusal) => put_line(out, at, order, &[u32::from(refusal)]),
     }
 }

@@ -4,15 +4,19 @@ ghost use Rattle.refusals.specs.Numbers.{number_of};
 ghost use Rattle.refusals.specs.Texts.{explained};
 
 use crate::refusal::Refusal;
+use std::error::Error;
 use std::fmt;
 
-impl Refusal {
-    pub fn number(self) -> u32
-        ensures { result ≡ number_of self }
-    {
-        self as u32
-    }
+impl From<Refusal> for u32 {
+    ghost from_gives = { λ r n. n ≡ number_of r };
 
+    // The number that is printed.
+    fn from(refusal: Refusal) -> u32 {
+        refusal as u32
+    }
+}
+
+impl Refusal {
     // The refusal in words.
     pub fn explanation(self) -> &'static str
         ensures { result.now ≡ explained self }
@@ -44,7 +48,9 @@ impl fmt::Display for Refusal {
     ghost output = { λ r. Some (decimal (number_of r)) };
 
     fn fmt<W: fmt::Write>(&self, f: &mut fmt::Formatter<W>) -> fmt::Result {
-        let number = self.number();
+        let number = u32::from(*self);
         write!(f, "{number}")
     }
 }
+
+impl Error for Refusal {}

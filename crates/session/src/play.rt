@@ -72,7 +72,7 @@ fn print_damage(out: &mut [u8], at: usize, refusal: Refusal) -> Played
     ensures answer { result ≡ damaged (end_at out.old at (line_of 0 (number_of refusal ∷ []))) refusal at }
     ensures after { out.new ≡ written_at out.old at (line_of 0 (number_of refusal ∷ [])) }
 {
-    match put_line(out, at, 0, &[refusal.number()]) {
+    match put_line(out, at, 0, &[u32::from(refusal)]) {
         Ok(end) => ended_by(0, refusal, end),
         Err(cause) => ended_by(0, cause, at),
     }

@@ -3,7 +3,7 @@ use Rattle.std.specs.Prelude.{ℕ, cond, Err, Result}
 use Rattle.refusals.specs.declared.refusal.Refusal.{Refusal}
 use Rattle.refusals.specs.declared.refusal.Refusal.TheVariants.{Torn}
 use Rattle.words.specs.Words.{is_scanner}
-use Rattle.memory.specs.Reads.{Seen}
+use Rattle.memory.specs.Seen.{Seen}
 use Rattle.swap_access.specs.declared.effect.Effect.{Effect}
 use Rattle.swap_access.specs.declared.position.Position.{Position}
 use Rattle.swap_access.specs.declared.position.Position.TheVariants.{Publish, ReadResult, Clean, PlaceMark, ReRead, TryToFail, GiveBack, Decide, FinishFirst, FinishSecond, WriteSuccess, Withdraw}

@@ -1,7 +1,8 @@
 -- How the swap of a descriptor ends once it is decided.
 use Rattle.std.specs.Prelude.{ℕ, Bool, false, cond, Result}
 use Rattle.refusals.specs.declared.refusal.Refusal.{Refusal}
-use Rattle.memory.specs.Reads.{Seen, on_ok, descriptor_at}
+use Rattle.memory.specs.Seen.{Seen}
+use Rattle.memory.specs.Reads.{on_ok, descriptor_at}
 use Rattle.swap_access.specs.declared.effect.Effect.{Effect}
 use Rattle.swap_access.specs.declared.position.Next.{Next}
 use Rattle.swap_access.specs.declared.position.Next.TheVariants.{At}

@@ -1,7 +1,8 @@
 -- The result of a descriptor.
 use Rattle.std.specs.Prelude.{ℕ, Bool, true, false, Ok, Result}
 use Rattle.refusals.specs.declared.refusal.Refusal.{Refusal}
-use Rattle.memory.specs.Reads.{Seen, on_ok, descriptor_at}
+use Rattle.memory.specs.Seen.{Seen}
+use Rattle.memory.specs.Reads.{on_ok, descriptor_at}
 use Rattle.swap_access.specs.declared.effect.Effect.{Effect}
 use Rattle.swap_access.specs.declared.position.Next.TheVariants.{At}
 use Rattle.words.specs.declared.word.Word.TheVariants.{Mark}

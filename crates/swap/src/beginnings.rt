@@ -1,6 +1,5 @@
 // How a scanner comes into the swap of a descriptor: its owner publishes it, a helper reads its result.
 ghost use Rattle.std.specs.Prelude.{◌≡◌};
-ghost use Rattle.memory.specs.Reads.{seen};
 ghost use Rattle.swap.specs.Beginnings.{at_publish, at_read_result, at_clean};
 
 use memory::meaning::Outcome;
@@ -13,8 +12,8 @@ use swap_access::position::{End, Met, Next, Position};
 use words::word::Word;
 
 // p1: o1 → the descriptor.
-pub fn at_publish(memory: Memory, descriptor: u32) -> Result<Effect, Refusal>
-    ensures { result ≡ at_publish (seen memory.entry) descriptor }
+pub fn at_publish(memory: &Memory<'_>, descriptor: u32) -> Result<Effect, Refusal>
+    ensures { result ≡ at_publish memory.now descriptor }
 {
     let swap = memory.descriptor(descriptor)?.first;
     install(
@@ -28,8 +27,8 @@ pub fn at_publish(memory: Memory, descriptor: u32) -> Result<Effect, Refusal>
 }
 
 // Reads the result: what is decided and finished is only cleaned.
-pub fn at_read_result(memory: Memory, descriptor: u32, met: Met) -> Result<Effect, Refusal>
-    ensures { result ≡ at_read_result (seen memory.entry) descriptor met }
+pub fn at_read_result(memory: &Memory<'_>, descriptor: u32, met: Met) -> Result<Effect, Refusal>
+    ensures { result ≡ at_read_result memory.now descriptor met }
 {
     let next = match outcome_at(memory, descriptor)? {
         Outcome::Success | Outcome::SecondFailed => Position::Clean { descriptor, met },
@@ -39,8 +38,8 @@ pub fn at_read_result(memory: Memory, descriptor: u32, met: Met) -> Result<Effec
 }
 
 // p2: the mark that was met → o2, or p1: the descriptor → o1.
-pub fn at_clean(memory: Memory, descriptor: u32, met: Met) -> Result<Effect, Refusal>
-    ensures { result ≡ at_clean (seen memory.entry) descriptor met }
+pub fn at_clean(memory: &Memory<'_>, descriptor: u32, met: Met) -> Result<Effect, Refusal>
+    ensures { result ≡ at_clean memory.now descriptor met }
 {
     let swaps = memory.descriptor(descriptor)?;
     let (swap, word) = match met {

@@ -1,6 +1,5 @@
 // What the next access of a scanner does, found from what stands in the tables: nothing is written.
 ghost use Rattle.std.specs.Prelude.{◌≡◌};
-ghost use Rattle.memory.specs.Reads.{seen};
 ghost use Rattle.swap.specs.Dispatch.{decided, access_at};
 
 use crate::beginnings::{at_clean, at_publish, at_read_result};
@@ -15,8 +14,8 @@ use words::told::LAST_SCANNER;
 
 // The access of a scanner that stands at a position; a scanner that can have no mark is torn.
 #[tactic(auto, unfolding(crate::specs::Dispatch::decided))]
-pub fn decide(memory: Memory, scanner: u32, at: Position) -> Result<Effect, Refusal>
-    ensures { result ≡ decided (seen memory.entry) scanner at }
+pub fn decide(memory: &Memory<'_>, scanner: u32, at: Position) -> Result<Effect, Refusal>
+    ensures { result ≡ decided memory.now scanner at }
 {
     if scanner > LAST_SCANNER {
         return Err(Refusal::Torn);
@@ -25,8 +24,8 @@ pub fn decide(memory: Memory, scanner: u32, at: Position) -> Result<Effect, Refu
 }
 
 // The access of a scanner at each position.
-fn access_at(memory: Memory, scanner: u32, at: Position) -> Result<Effect, Refusal>
-    ensures { result ≡ access_at (seen memory.entry) scanner at }
+fn access_at(memory: &Memory<'_>, scanner: u32, at: Position) -> Result<Effect, Refusal>
+    ensures { result ≡ access_at memory.now scanner at }
 {
     match at {
         Position::Publish { descriptor } => at_publish(memory, descriptor),

@@ -1,6 +1,5 @@
 // How the swap of a descriptor ends once it is decided: both addresses get a plain word again.
 ghost use Rattle.std.specs.Prelude.{◌≡◌};
-ghost use Rattle.memory.specs.Reads.{seen};
 ghost use Rattle.swap.specs.Ends.{after_decision, at_give_back, at_finish_first, at_finish_second};
 
 use memory::view::Memory;
@@ -25,8 +24,8 @@ pub fn after_decision(descriptor: u32, placed: bool, success: bool) -> Next
 }
 
 // p1: the descriptor → o1.
-pub fn at_give_back(memory: Memory, descriptor: u32) -> Result<Effect, Refusal>
-    ensures { result ≡ at_give_back (seen memory.entry) descriptor }
+pub fn at_give_back(memory: &Memory<'_>, descriptor: u32) -> Result<Effect, Refusal>
+    ensures { result ≡ at_give_back memory.now descriptor }
 {
     let swaps = memory.descriptor(descriptor)?;
     let word = Word::Descriptor(descriptor);
@@ -40,8 +39,8 @@ pub fn at_give_back(memory: Memory, descriptor: u32) -> Result<Effect, Refusal>
 }
 
 // p1: the descriptor → n1.
-pub fn at_finish_first(memory: Memory, descriptor: u32, winner: u32) -> Result<Effect, Refusal>
-    ensures { result ≡ at_finish_first (seen memory.entry) descriptor winner }
+pub fn at_finish_first(memory: &Memory<'_>, descriptor: u32, winner: u32) -> Result<Effect, Refusal>
+    ensures { result ≡ at_finish_first memory.now descriptor winner }
 {
     let swap = memory.descriptor(descriptor)?.first;
     let word = Word::Descriptor(descriptor);
@@ -50,8 +49,12 @@ pub fn at_finish_first(memory: Memory, descriptor: u32, winner: u32) -> Result<E
 }
 
 // p2: the mark of the winner → n2.
-pub fn at_finish_second(memory: Memory, descriptor: u32, winner: u32) -> Result<Effect, Refusal>
-    ensures { result ≡ at_finish_second (seen memory.entry) descriptor winner }
+pub fn at_finish_second(
+    memory: &Memory<'_>,
+    descriptor: u32,
+    winner: u32,
+) -> Result<Effect, Refusal>
+    ensures { result ≡ at_finish_second memory.now descriptor winner }
 {
     let swap = memory.descriptor(descriptor)?.second;
     let mark = Word::Mark {

@@ -1,6 +1,5 @@
 // Marks at the second address.
 ghost use Rattle.std.specs.Prelude.{◌≡◌};
-ghost use Rattle.memory.specs.Reads.{seen};
 ghost use Rattle.swap.specs.Marks.{at_place_mark, at_re_read, at_withdraw};
 
 use memory::view::Memory;
@@ -9,12 +8,11 @@ use swap_access::accesses::{install, remove};
 use swap_access::effect::{Effect, end_of, write_nothing};
 use swap_access::found::found_at;
 use swap_access::position::{Next, Position};
-use words::told::tell;
 use words::word::Word;
 
 // p2: o2 → the scanner's own mark.
-pub fn at_place_mark(memory: Memory, scanner: u32, descriptor: u32) -> Result<Effect, Refusal>
-    ensures { result ≡ at_place_mark (seen memory.entry) scanner descriptor }
+pub fn at_place_mark(memory: &Memory<'_>, scanner: u32, descriptor: u32) -> Result<Effect, Refusal>
+    ensures { result ≡ at_place_mark memory.now scanner descriptor }
 {
     let swap = memory.descriptor(descriptor)?.second;
     install(
@@ -35,12 +33,12 @@ pub fn at_place_mark(memory: Memory, scanner: u32, descriptor: u32) -> Result<Ef
 }
 
 // Reads p2: a mark of the descriptor, by whichever scanner, is the one to decide with.
-pub fn at_re_read(memory: Memory, descriptor: u32) -> Result<Effect, Refusal>
-    ensures { result ≡ at_re_read (seen memory.entry) descriptor }
+pub fn at_re_read(memory: &Memory<'_>, descriptor: u32) -> Result<Effect, Refusal>
+    ensures { result ≡ at_re_read memory.now descriptor }
 {
     let address = memory.descriptor(descriptor)?.second.address;
-    let next = match tell(found_at(memory, address)?) {
-        Some(
+    let next = match Word::try_from(found_at(memory, address)?) {
+        Ok(
             Word::Mark {
                 scanner: mark,
                 descriptor: of,
@@ -57,12 +55,12 @@ pub fn at_re_read(memory: Memory, descriptor: u32) -> Result<Effect, Refusal>
 
 // p2: the scanner's own mark → o2.
 pub fn at_withdraw(
-    memory: Memory,
+    memory: &Memory<'_>,
     scanner: u32,
     descriptor: u32,
     success: bool,
 ) -> Result<Effect, Refusal>
-    ensures { result ≡ at_withdraw (seen memory.entry) scanner descriptor success }
+    ensures { result ≡ at_withdraw memory.now scanner descriptor success }
 {
     let swap = memory.descriptor(descriptor)?.second;
     let mark = Word::Mark {

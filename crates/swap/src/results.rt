@@ -1,6 +1,5 @@
 // The result of a descriptor: swapped once from undecided, and written once more after success.
 ghost use Rattle.std.specs.Prelude.{◌≡◌};
-ghost use Rattle.memory.specs.Reads.{seen};
 ghost use Rattle.swap.specs.Results.{at_try_to_fail, at_decide, at_write_success};
 
 use crate::ends::after_decision;
@@ -8,7 +7,7 @@ use memory::meaning::Outcome;
 use memory::view::Memory;
 use refusals::refusal::Refusal;
 use swap_access::effect::{Effect, Write, end_of, write_nothing};
-use swap_access::found::{number_of, outcome_at};
+use swap_access::found::outcome_at;
 use swap_access::position::{Next, Position};
 use words::word::Word;
 
@@ -17,16 +16,16 @@ const SUCCESS: u32 = 2;
 const SECOND_FAILED: u32 = 3;
 
 // result: undecided → second failed.
-pub fn at_try_to_fail(memory: Memory, descriptor: u32) -> Result<Effect, Refusal>
-    ensures { result ≡ at_try_to_fail (seen memory.entry) descriptor }
+pub fn at_try_to_fail(memory: &Memory<'_>, descriptor: u32) -> Result<Effect, Refusal>
+    ensures { result ≡ at_try_to_fail memory.now descriptor }
 {
     let give_back = Next::At(Position::GiveBack { descriptor });
     Ok(match outcome_at(memory, descriptor)? {
         Outcome::Undecided => Effect {
-            write: Write::Result {
+            write: Some(Write::Result {
                 descriptor,
                 result: SECOND_FAILED,
-            },
+            }),
             next: give_back,
         },
         Outcome::SecondFailed => write_nothing(give_back),
@@ -40,20 +39,20 @@ pub fn at_try_to_fail(memory: Memory, descriptor: u32) -> Result<Effect, Refusal
 
 // result: undecided → the mark in hand.
 pub fn at_decide(
-    memory: Memory,
+    memory: &Memory<'_>,
     descriptor: u32,
     mark: u32,
     placed: bool,
 ) -> Result<Effect, Refusal>
-    ensures { result ≡ at_decide (seen memory.entry) descriptor mark placed }
+    ensures { result ≡ at_decide memory.now descriptor mark placed }
 {
-    let result = number_of(Word::Mark {
+    let result = u32::try_from(Word::Mark {
         scanner: mark,
         descriptor,
     })?;
     Ok(match outcome_at(memory, descriptor)? {
         Outcome::Undecided => Effect {
-            write: Write::Result { descriptor, result },
+            write: Some(Write::Result { descriptor, result }),
             next: Next::At(Position::FinishFirst {
                 descriptor,
                 winner: mark,
@@ -69,15 +68,15 @@ pub fn at_decide(
 }
 
 // result: success.
-pub fn at_write_success(memory: Memory, descriptor: u32) -> Result<Effect, Refusal>
-    ensures { result ≡ at_write_success (seen memory.entry) descriptor }
+pub fn at_write_success(memory: &Memory<'_>, descriptor: u32) -> Result<Effect, Refusal>
+    ensures { result ≡ at_write_success memory.now descriptor }
 {
     memory.descriptor(descriptor)?;
     Ok(Effect {
-        write: Write::Result {
+        write: Some(Write::Result {
             descriptor,
             result: SUCCESS,
-        },
+        }),
         next: end_of(true),
     })
 }

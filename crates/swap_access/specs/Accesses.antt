@@ -2,7 +2,8 @@
 use Rattle.std.specs.Prelude.{ℕ, cond, Ok, Result, ◌==◌}
 use Rattle.refusals.specs.declared.refusal.Refusal.{Refusal}
 use Rattle.words.specs.declared.word.Word.{Word}
-use Rattle.memory.specs.Reads.{Seen, on_ok}
+use Rattle.memory.specs.Seen.{Seen}
+use Rattle.memory.specs.Reads.{on_ok}
 use Rattle.memory.specs.Meaning.{plain}
 use Rattle.swap_access.specs.declared.effect.Effect.{Effect}
 use Rattle.swap_access.specs.declared.position.Next.{Next}

@@ -6,7 +6,8 @@ use Rattle.words.specs.declared.word.Word.{Word}
 use Rattle.words.specs.declared.word.Word.TheVariants.{Nil, Node, Descriptor, Mark}
 use Rattle.words.specs.Words.{told, coded}
 use Rattle.memory.specs.declared.meaning.Outcome.{Outcome}
-use Rattle.memory.specs.Reads.{Seen, on_ok, node_at, descriptor_at, word_at}
+use Rattle.memory.specs.Seen.{Seen}
+use Rattle.memory.specs.Reads.{on_ok, node_at, descriptor_at, word_at}
 use Rattle.memory.specs.Meaning.{outcome_of}
 
 abbrev pub or_torn : {A : Type 0} → Option A → Result A Refusal

@@ -5,17 +5,16 @@ ghost use Rattle.swap_access.specs.Effects.{no_write, end_of};
 use crate::position::{End, Next};
 
 // The one write of an access.
-#[derive(Clone, Copy)]
+#[derive(Clone, Copy, PartialEq, Eq, Debug)]
 pub enum Write {
-    Nothing,
     Word { address: u32, word: u32 },
     Result { descriptor: u32, result: u32 },
 }
 
-// An access: its write, and where the scanner stands after it.
-#[derive(Clone, Copy)]
+// An access: its write, if it makes one, and where the scanner stands after it.
+#[derive(Clone, Copy, PartialEq, Eq, Debug)]
 pub struct Effect {
-    pub write: Write,
+    pub write: Option<Write>,
     pub next: Next,
 }
 
@@ -23,10 +22,7 @@ pub struct Effect {
 pub fn write_nothing(next: Next) -> Effect
     ensures { result ≡ no_write next }
 {
-    Effect {
-        write: Write::Nothing,
-        next,
-    }
+    Effect { write: None, next }
 }
 
 // The end that a result of success or of second failed says.

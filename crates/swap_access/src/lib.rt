@@ -4,4 +4,5 @@
 pub mod accesses;
 pub mod effect;
 pub mod found;
+pub mod names;
 pub mod position;

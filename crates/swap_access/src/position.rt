@@ -1,7 +1,7 @@
 // Where a scanner stands in a two-word swap.
 
 // What a helper met that made it help.
-#[derive(Clone, Copy)]
+#[derive(Clone, Copy, PartialEq, Eq, Debug)]
 pub enum Met {
     // the descriptor, at its first address
     Descriptor,
@@ -11,7 +11,7 @@ pub enum Met {
 
 // A position in the swap of a descriptor. Each is one access, written below as "address: old → new": p1, o1 and n1 are of
 // the descriptor's first swap, p2, o2 and n2 of its second. Whether the scanner owns the swap or helps, its caller knows.
-#[derive(Clone, Copy)]
+#[derive(Clone, Copy, PartialEq, Eq, Debug)]
 pub enum Position {
     // p1: o1 → the descriptor; the owner begins here
     Publish {
@@ -72,7 +72,7 @@ pub enum Position {
 }
 
 // How the swap ended. Helped: the cleaning swap ended a help; a help may have the ends Success and SecondFailed too.
-#[derive(Clone, Copy)]
+#[derive(Clone, Copy, PartialEq, Eq, Debug)]
 pub enum End {
     FirstFailed,
     Success,
@@ -81,7 +81,7 @@ pub enum End {
 }
 
 // Where the scanner stands after an access.
-#[derive(Clone, Copy)]
+#[derive(Clone, Copy, PartialEq, Eq, Debug)]
 pub enum Next {
     At(Position),
     Ended(End),

@@ -5,7 +5,8 @@ use Rattle.refusals.specs.declared.refusal.Refusal.TheVariants.{Torn}
 use Rattle.words.specs.declared.word.Word.{Word as CodeWord}
 use Rattle.words.specs.declared.word.Word.TheVariants.{Nil, Node, Descriptor, Mark}
 use Rattle.words.specs.Words.{told}
-use Rattle.memory.specs.Reads.{Seen, on_ok, descriptor_at, word_at}
+use Rattle.memory.specs.Seen.{Seen}
+use Rattle.memory.specs.Reads.{on_ok, descriptor_at, word_at}
 use Rattle.memory.specs.declared.meaning.Outcome.{Outcome as CodeOutcome}
 use Rattle.memory.specs.Meaning.{plain as plain_read, outcome_of}
 use Rattle.swap_access.specs.declared.effect.Effect.{Effect}

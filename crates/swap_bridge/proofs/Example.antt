@@ -5,7 +5,8 @@ use Rattle.records.specs.Tables.{zero_node, zero_descriptor}
 use Rattle.memory.specs.declared.address.Address.{Address as Place}
 use Rattle.memory.specs.declared.address.Address.TheVariants.{TrayWord, NextWord}
 use Rattle.memory.specs.Addresses.{addressed}
-use Rattle.memory.specs.Reads.{Seen, descriptor_at, word_in}
+use Rattle.memory.specs.Seen.{Seen}
+use Rattle.memory.specs.Reads.{descriptor_at, word_in}
 use Rattle.swap_access.specs.declared.position.End.TheVariants.{Success}
 use Rattle.swap_access.specs.declared.position.Next.TheVariants.{At, Ended}
 use Rattle.swap_access.specs.declared.position.Position.TheVariants.{Publish, PlaceMark, Decide, FinishFirst, FinishSecond, WriteSuccess}

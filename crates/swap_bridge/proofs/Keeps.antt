@@ -1,14 +1,16 @@
 -- What the system does keeps it valid.
+use Rattle.std.specs.Prelude.{None, Option, Some}
 use Rattle.std.proofs.Common.{◌≡◌, ℕ, ◌+◌, ◌-◌, ◌≤◌, Bool, ◌≢◌, length, Ok, sym, refl, ap, ◌∙◌, subst, arith, length-set}
 use native.Mathlib.Decide.{ℕ_discrete}
 use Rattle.words.specs.Words.{told}
 use Rattle.records.specs.declared.entries.Node.{Node}
 use Rattle.records.specs.declared.entries.Descriptor.{Descriptor as Record}
 use Rattle.memory.specs.Addresses.{addressed}
-use Rattle.memory.specs.Reads.{Seen, word_at}
+use Rattle.memory.specs.Seen.{Seen}
+use Rattle.memory.specs.Reads.{word_at}
 use Rattle.memory.specs.Meaning.{outcome_of}
 use Rattle.swap_access.specs.declared.effect.Write.{Write}
-use Rattle.swap_access.specs.declared.effect.Write.TheVariants.{Nothing, Word as WordWrite, Result as ResultWrite}
+use Rattle.swap_access.specs.declared.effect.Write.TheVariants.{Word as WordWrite, Result as ResultWrite}
 use Rattle.swap_access.specs.declared.position.Next.{Next}
 use Rattle.swap_access.specs.declared.position.Next.TheVariants.{At, Ended}
 use Rattle.swap_access.specs.declared.position.Position.TheVariants.{Publish, ReadResult, Clean, PlaceMark, ReRead, TryToFail, GiveBack, Decide, FinishFirst, FinishSecond, WriteSuccess, Withdraw}
@@ -72,21 +74,21 @@ with_result_task m x r t = record { first_address = t.first_address; first_old =
 not_live : (m : Seen) (b : ℕ → Bool) (d f : ℕ) → Live (result_at m b d) → result_at m b f ≡ fresh → f ≢ d
 not_live m b d f l e q = subst Live (ap (result_at m b) (sym q) ∙ e) l
 
-pub keeps_write : (m : Seen) (b : ℕ → Bool) → Rooms m → Known m → (w : Write) → WritesWell m b w → Kept m (written w m) b
-keeps_write m b r q Nothing ww = record { rooms = record { nodes = r.nodes; descriptors = r.descriptors }; words = q; proper = λ d p. record { taken = p.taken; task = p.task }; unpublished = λ d e. refl }
-keeps_write m b r q (WordWrite a w) ww =
+pub keeps_write : (m : Seen) (b : ℕ → Bool) → Rooms m → Known m → (w : Option Write) → WritesWell m b w → Kept m (written w m) b
+keeps_write m b r q None ww = record { rooms = record { nodes = r.nodes; descriptors = r.descriptors }; words = q; proper = λ d p. record { taken = p.taken; task = p.task }; unpublished = λ d e. refl }
+keeps_write m b r q (Some (WordWrite a w)) ww =
     record {
       rooms = record { nodes = subst (λ n. n ≤ 4095) (sym (next_length m.nodes (addressed a) w)) r.nodes; descriptors = r.descriptors };
       words =
           λ c y e.
           elim (ℕ_discrete a c) [
-            | yes z ↦ let g : Ok y ≡ Ok w = sym e ∙ ap (word_at (written (WordWrite a w) m)) (sym z) ∙ wrote_here m a w ww.0 in let g' : y ≡ w = cc in subst (λ n. known (written (WordWrite a w) m) n (told n) ≡ Ok n) (sym g') (known_kept w (told w) (like_word m a w) ww.1)
+            | yes z ↦ let g : Ok y ≡ Ok w = sym e ∙ ap (word_at (written (Some (WordWrite a w)) m)) (sym z) ∙ wrote_here m a w ww.0 in let g' : y ≡ w = cc in subst (λ n. known (written (Some (WordWrite a w)) m) n (told n) ≡ Ok n) (sym g') (known_kept w (told w) (like_word m a w) ww.1)
             | no n ↦ known_kept y (told y) (like_word m a w) (q c y (sym (wrote_there m a c w n) ∙ e))
           ];
       proper = λ d p. record { taken = p.taken; task = task_kept (record_at m d) (like_word m a w) p.task };
       unpublished = λ d e. refl;
     }
-keeps_write m b r q (ResultWrite d n) ww =
+keeps_write m b r q (Some (ResultWrite d n)) ww =
     let e = ww.0.taken in
     let p = taken_place m d e in
     let x : Record = with_result (record_at m d) n in

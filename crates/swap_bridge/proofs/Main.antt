@@ -1,9 +1,11 @@
 -- The theorems.
+use Rattle.std.specs.Prelude.{Some}
 use Rattle.std.proofs.Common.{◌≡◌, ℕ, ◌+◌, Bool, true, false, ◌≢◌, List, Ok, Err, Result, sym, refl, ap, ◌∙◌, subst, inl, inr, arith}
 use native.Mathlib.Decide.{ℕ_discrete}
 use Rattle.refusals.specs.declared.refusal.Refusal.{Refusal}
 use Rattle.words.specs.Words.{told}
-use Rattle.memory.specs.Reads.{Seen, on_ok, word_at}
+use Rattle.memory.specs.Seen.{Seen}
+use Rattle.memory.specs.Reads.{on_ok, word_at}
 use Rattle.memory.specs.Meaning.{outcome_of}
 use Rattle.swap_access.specs.declared.effect.Write.TheVariants.{Word as WordWrite}
 use Rattle.swap_access.specs.declared.position.Met.TheVariants.{Descriptor as by_descriptor, Mark as by_mark}
@@ -74,9 +76,9 @@ module _ (safe : Safe) (σ : System) (v : Valid σ) (inv : Invariant (abstracted
       subst (λ g. Step (abstracted σ) (event_of (swap_of p) g.write g.next) (abstracted (after σ s own p g)) × Valid (after σ s own p g)) q
       (step_to s (going own mv.effect.next) _ (from s (working own p) (going own mv.effect.next) _ st mv.acts), valid_after s own p st mv)
   does_step (swaps s a x y st e px py) =
-      let k = keeps_write m σ.published v.rooms v.words (WordWrite a y) ((x, e), plain_known m y v.rooms py) in
-      let q : memory_of (written (WordWrite a y) m) σ.published σ.owner ≡ write mem a (plain y) = word_memory m σ.published σ.owner a y (x, e) ∙ ap (write mem a) (plain_means m y v.rooms py) in
-      (step_to s resting _ (from s resting resting _ st (subst (λ z. Act s mem idle (swapped a x y) z idle) (sym q) (swap a x y (ap word_read e ∙ plain_means m x v.rooms px)))), record { rooms = k.rooms; words = k.words; live = λ d l. k.proper d (v.live d l); stands = moved_stands (written (WordWrite a y) m) σ.standing s resting tt (λ t n. others (written (WordWrite a y) m) k t) })
+      let k = keeps_write m σ.published v.rooms v.words (Some (WordWrite a y)) ((x, e), plain_known m y v.rooms py) in
+      let q : memory_of (written (Some (WordWrite a y)) m) σ.published σ.owner ≡ write mem a (plain y) = word_memory m σ.published σ.owner a y (x, e) ∙ ap (write mem a) (plain_means m y v.rooms py) in
+      (step_to s resting _ (from s resting resting _ st (subst (λ z. Act s mem idle (swapped a x y) z idle) (sym q) (swap a x y (ap word_read e ∙ plain_means m x v.rooms px)))), record { rooms = k.rooms; words = k.words; live = λ d l. k.proper d (v.live d l); stands = moved_stands (written (Some (WordWrite a y)) m) σ.standing s resting tt (λ t n. others (written (Some (WordWrite a y)) m) k t) })
   does_step (takes_node s x st h px) =
       let k = keeps_grown m σ.published x v.rooms v.words h px in
       let q : memory_of (grown m x) σ.published σ.owner ≡ write mem (64 + (m.nodes_taken + 1)) (plain x.next) = grown_memory m σ.published σ.owner x h v.rooms.nodes ∙ ap (write mem (64 + (m.nodes_taken + 1))) (plain_means m x.next v.rooms px) in

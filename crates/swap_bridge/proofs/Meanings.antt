@@ -6,7 +6,8 @@ use Rattle.words.specs.declared.word.Word.{Word as CodeWord}
 use Rattle.words.specs.declared.word.Word.TheVariants.{Nil, Node, Descriptor, Mark}
 use Rattle.words.specs.Words.{told}
 use Rattle.records.specs.declared.entries.Descriptor.{Descriptor as Record}
-use Rattle.memory.specs.Reads.{Seen, on_ok, word_at}
+use Rattle.memory.specs.Seen.{Seen}
+use Rattle.memory.specs.Reads.{on_ok, word_at}
 use Rattle.memory.specs.declared.meaning.Outcome.{Outcome as CodeOutcome}
 use Rattle.memory.specs.declared.meaning.Outcome.TheVariants.{Undecided, Success, SecondFailed, DecidedBy}
 use Rattle.memory.specs.Meaning.{plain as plain_read, outcome_of, first_word, second_word, meant, stands_for as code_stands_for}

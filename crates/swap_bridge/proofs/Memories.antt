@@ -1,11 +1,13 @@
 -- The machine's memory after a write to the tables.
+use Rattle.std.specs.Prelude.{Some}
 use Rattle.std.proofs.Common.{◌≡◌, ℕ, ◌+◌, ◌≤◌, Bool, true, false, ◌≢◌, length, Some, Ok, sym, refl, ap, ◌∙◌, arith}
 use mathlib.Core.Path.{fun_ext}
 use native.Mathlib.Decide.{ℕ_discrete}
 use Rattle.words.specs.Words.{told}
 use Rattle.records.specs.declared.entries.Node.{Node}
 use Rattle.records.specs.declared.entries.Descriptor.{Descriptor as Record}
-use Rattle.memory.specs.Reads.{Seen, descriptor_at}
+use Rattle.memory.specs.Seen.{Seen}
+use Rattle.memory.specs.Reads.{descriptor_at}
 use Rattle.memory.specs.declared.meaning.Outcome.TheVariants.{Undecided}
 use Rattle.memory.specs.Meaning.{outcome_of}
 use Rattle.swap_access.specs.declared.effect.Write.TheVariants.{Word as WordWrite, Result as ResultWrite}
@@ -37,11 +39,11 @@ memory_path : {w w' : ℕ → Word} {r r' : ℕ → Outcome} {f f' : ℕ → Fie
 memory_path {o = o} p q s = λ i. record { word = p i; result = q i; fields = s i; owner = o }
 
 module _ (m : Seen) (b : ℕ → Bool) (o : ℕ → Owner) where
-  word_updated : (a w : ℕ) → Address m a → word_of (written (WordWrite a w) m) ≡ update (word_of m) a (meaning (told w))
-  word_updated a w x = updated (word_of m) (word_of (written (WordWrite a w) m)) a (meaning (told w)) (ap word_read (wrote_here m a w x)) (λ c h. ap word_read (wrote_there m a c w (λ q. h (sym q))))
+  word_updated : (a w : ℕ) → Address m a → word_of (written (Some (WordWrite a w)) m) ≡ update (word_of m) a (meaning (told w))
+  word_updated a w x = updated (word_of m) (word_of (written (Some (WordWrite a w)) m)) a (meaning (told w)) (ap word_read (wrote_here m a w x)) (λ c h. ap word_read (wrote_there m a c w (λ q. h (sym q))))
 
   -- a written word
-  pub word_memory : (a w : ℕ) → Address m a → memory_of (written (WordWrite a w) m) b o ≡ write (memory_of m b o) a (meaning (told w))
+  pub word_memory : (a w : ℕ) → Address m a → memory_of (written (Some (WordWrite a w)) m) b o ≡ write (memory_of m b o) a (meaning (told w))
   word_memory a w x = memory_path (word_updated a w x) refl refl
 
   -- one more node
@@ -50,7 +52,7 @@ module _ (m : Seen) (b : ℕ → Bool) (o : ℕ → Owner) where
       memory_path (updated (word_of m) (word_of (grown m x)) (64 + (m.nodes_taken + 1)) (meaning (told x.next)) (ap word_read (grown_here m x h r)) (λ c n. ap word_read (grown_there m x c n))) refl refl
 
   -- a written descriptor, at its first address
-  pub publish_memory : (d w : ℕ) → Address m (record_at m d).first.address → meaning (told w) ≡ descriptor d → outcome_of d (record_at m d).result ≡ Some Undecided → memory_of (written (WordWrite (record_at m d).first.address w) m) (update b d true) o ≡ publish (memory_of m b o) d
+  pub publish_memory : (d w : ℕ) → Address m (record_at m d).first.address → meaning (told w) ≡ descriptor d → outcome_of d (record_at m d).result ≡ Some Undecided → memory_of (written (Some (WordWrite (record_at m d).first.address w)) m) (update b d true) o ≡ publish (memory_of m b o) d
   publish_memory d w x e u =
       memory_path
       (word_updated (record_at m d).first.address w x ∙ ap (update (word_of m) (record_at m d).first.address) e)
@@ -66,7 +68,7 @@ module _ (m : Seen) (b : ℕ → Bool) (o : ℕ → Owner) where
   record_there d f x l h n = ap or_zero (filled_there m d f x l h n)
 
   -- a written result
-  pub result_memory : (d r : ℕ) → descriptor_at m d ≡ Ok (record_at m d) → memory_of (written (ResultWrite d r) m) b o ≡ set_result (memory_of m b o) d (outcome (b d) (outcome_of d r))
+  pub result_memory : (d r : ℕ) → descriptor_at m d ≡ Ok (record_at m d) → memory_of (written (Some (ResultWrite d r)) m) b o ≡ set_result (memory_of m b o) d (outcome (b d) (outcome_of d r))
   result_memory d r e =
       let p = taken_place m d e in
       let x : Record = with_result (record_at m d) r in

@@ -1,4 +1,5 @@
 -- One access of the code and the machine's step that it is.
+use Rattle.std.specs.Prelude.{None, Option, Some}
 use Rattle.std.proofs.Common.{◌≡◌, ℕ, ◌+◌, ◌*◌, ◌≤◌, Bool, true, false, cond, eqb, ◌≢◌, Some, None, Ok, Option, Result, sym, refl, ap, ◌∙◌, subst, inl, inr, arith}
 use Rattle.std.proofs.lemmas.Bool.Decides.{nat_tests, eqb_tells}
 use Rattle.refusals.specs.declared.refusal.Refusal.{Refusal}
@@ -6,13 +7,14 @@ use Rattle.words.specs.declared.word.Word.{Word as CodeWord}
 use Rattle.words.specs.declared.word.Word.TheVariants.{Nil, Node, Descriptor, Mark}
 use Rattle.words.specs.Words.{told}
 use Rattle.records.specs.declared.entries.Descriptor.{Descriptor as Record}
-use Rattle.memory.specs.Reads.{Seen, on_ok, descriptor_at, word_at}
+use Rattle.memory.specs.Seen.{Seen}
+use Rattle.memory.specs.Reads.{on_ok, descriptor_at, word_at}
 use Rattle.memory.specs.declared.meaning.Outcome.{Outcome as CodeOutcome}
 use Rattle.memory.specs.declared.meaning.Outcome.TheVariants.{Undecided, Success, SecondFailed, DecidedBy}
 use Rattle.memory.specs.Meaning.{outcome_of}
 use Rattle.swap_access.specs.declared.effect.Effect.{Effect}
 use Rattle.swap_access.specs.declared.effect.Write.{Write}
-use Rattle.swap_access.specs.declared.effect.Write.TheVariants.{Nothing, Word as WordWrite, Result as ResultWrite}
+use Rattle.swap_access.specs.declared.effect.Write.TheVariants.{Word as WordWrite, Result as ResultWrite}
 use Rattle.swap_access.specs.declared.position.Met.{Met}
 use Rattle.swap_access.specs.declared.position.Met.TheVariants.{Descriptor as by_descriptor, Mark as by_mark}
 use Rattle.swap_access.specs.declared.position.End.TheVariants.{FirstFailed, Helped}
@@ -41,10 +43,10 @@ use Rattle.swap_bridge.proofs.Accesses.{plain_known, plain_means, descriptor_num
 use Rattle.swap_bridge.proofs.Memories.{word_memory, publish_memory, result_memory}
 
 -- a write of a known word at an address of the tables, or of a result of a published descriptor
-abbrev pub WritesWell : Seen → (ℕ → Bool) → Write → Type 0
-WritesWell m b Nothing = Unit {0}
-WritesWell m b (WordWrite a w) = Address m a × (known m w (told w) ≡ Ok w)
-WritesWell m b (ResultWrite d r) = Proper m d × Live (result_at m b d)
+abbrev pub WritesWell : Seen → (ℕ → Bool) → Option Write → Type 0
+WritesWell m b None = Unit {0}
+WritesWell m b (Some (WordWrite a w)) = Address m a × (known m w (told w) ≡ Ok w)
+WritesWell m b (Some (ResultWrite d r)) = Proper m d × Live (result_at m b d)
 
 -- the scanner goes on to a position that fits, and not to a publishing
 abbrev pub GoesWell : Bool → Next → Type 0
@@ -112,7 +114,7 @@ module _ (σ : System) (v : Valid σ) (s : ℕ) (low : s ≤ 15) (own : Bool) wh
   mem = (abstracted σ).memory
 
   -- a swap of one word is what the machine says, whether it hits or misses
-  by_swap : (p : CodePosition) (a o n : ℕ) (w : Word) (done fail : Next) → Address m a → access_at m s p ≡ swap_word m a o n done fail → meaning (told o) ≡ w → number w ≡ o → known m n (told n) ≡ Ok n → (word_of m a ≡ w → Act s mem (position_of own p) (event_of (swap_of p) (WordWrite a n) done) (memory_of (written (WordWrite a n) m) (publishing p done b) σ.owner) (place_of (going own done))) → (word_of m a ≢ w → Act s mem (position_of own p) (event_of (swap_of p) Nothing fail) (memory_of m (publishing p fail b) σ.owner) (place_of (going own fail))) → GoesWell own done → GoesWell own fail → Moves σ s own p
+  by_swap : (p : CodePosition) (a o n : ℕ) (w : Word) (done fail : Next) → Address m a → access_at m s p ≡ swap_word m a o n done fail → meaning (told o) ≡ w → number w ≡ o → known m n (told n) ≡ Ok n → (word_of m a ≡ w → Act s mem (position_of own p) (event_of (swap_of p) (Some (WordWrite a n)) done) (memory_of (written (Some (WordWrite a n)) m) (publishing p done b) σ.owner) (place_of (going own done))) → (word_of m a ≢ w → Act s mem (position_of own p) (event_of (swap_of p) None fail) (memory_of m (publishing p fail b) σ.owner) (place_of (going own fail))) → GoesWell own done → GoesWell own fail → Moves σ s own p
   by_swap p a o n w done fail ad ac me nu kn hits misses gd gf =
       elim (swaps_word m v.words a o n w done fail ad me nu) [
         | inl q ↦ record { effect = word_write a n done; computes = goes_on m s p (word_write a n done) low (ac ∙ q.0); acts = hits q.1; writes_well = (ad, kn); goes_well = gd }
@@ -120,13 +122,13 @@ module _ (σ : System) (v : Valid σ) (s : ℕ) (low : s ≤ 15) (own : Bool) wh
       ]
 
   -- the memory after a plain word was written
-  plain_written : (a n : ℕ) → Address m a → Plain m n → memory_of (written (WordWrite a n) m) b σ.owner ≡ write mem a (plain n)
+  plain_written : (a n : ℕ) → Address m a → Plain m n → memory_of (written (Some (WordWrite a n)) m) b σ.owner ≡ write mem a (plain n)
   plain_written a n x p = word_memory m b σ.owner a n x ∙ ap (write mem a) (plain_means m n v.rooms p)
 
-  by_removal : (p : CodePosition) (a o n : ℕ) (c : CodeWord) (w : Word) (next : Next) → Address m a → access_at m s p ≡ remove m a c n next → number_of c ≡ Ok o → meaning (told o) ≡ w → number w ≡ o → Plain m n → publishing p next b ≡ b → (word_of m a ≡ w → Act s mem (position_of own p) (event_of (swap_of p) (WordWrite a n) next) (write mem a (plain n)) (place_of (going own next))) → (word_of m a ≢ w → Act s mem (position_of own p) (event_of (swap_of p) Nothing next) mem (place_of (going own next))) → GoesWell own next → Moves σ s own p
+  by_removal : (p : CodePosition) (a o n : ℕ) (c : CodeWord) (w : Word) (next : Next) → Address m a → access_at m s p ≡ remove m a c n next → number_of c ≡ Ok o → meaning (told o) ≡ w → number w ≡ o → Plain m n → publishing p next b ≡ b → (word_of m a ≡ w → Act s mem (position_of own p) (event_of (swap_of p) (Some (WordWrite a n)) next) (write mem a (plain n)) (place_of (going own next))) → (word_of m a ≢ w → Act s mem (position_of own p) (event_of (swap_of p) None next) mem (place_of (going own next))) → GoesWell own next → Moves σ s own p
   by_removal p a o n c w next ad ac nc me nu pl pb hits misses gw =
       by_swap p a o n w next next ad (ac ∙ removes m a o n c next nc pl) me nu (plain_known m n v.rooms pl)
-      (λ h. onto (ap (λ y. memory_of (written (WordWrite a n) m) y σ.owner) pb ∙ plain_written a n ad pl) (hits h))
+      (λ h. onto (ap (λ y. memory_of (written (Some (WordWrite a n)) m) y σ.owner) pb ∙ plain_written a n ad pl) (hits h))
       (λ h. onto (ap (λ y. memory_of m y σ.owner) pb) (misses h))
       gw gw
 
@@ -167,11 +169,11 @@ module _ (σ : System) (v : Valid σ) (s : ℕ) (low : s ≤ 15) (own : Bool) wh
         (tt, λ _. tt)
 
     -- the descriptor, or a mark of it, makes way for a plain word
-    removes_descriptor : (p : CodePosition) (n : ℕ) (next : Next) → access_at m s p ≡ remove m x.first.address (Descriptor d) n next → Plain m n → publishing p next b ≡ b → (word_of m x.first.address ≡ descriptor d → Act s mem (position_of own p) (event_of (swap_of p) (WordWrite x.first.address n) next) (write mem x.first.address (plain n)) (place_of (going own next))) → (word_of m x.first.address ≢ descriptor d → Act s mem (position_of own p) (event_of (swap_of p) Nothing next) mem (place_of (going own next))) → GoesWell own next → Moves σ s own p
+    removes_descriptor : (p : CodePosition) (n : ℕ) (next : Next) → access_at m s p ≡ remove m x.first.address (Descriptor d) n next → Plain m n → publishing p next b ≡ b → (word_of m x.first.address ≡ descriptor d → Act s mem (position_of own p) (event_of (swap_of p) (Some (WordWrite x.first.address n)) next) (write mem x.first.address (plain n)) (place_of (going own next))) → (word_of m x.first.address ≢ descriptor d → Act s mem (position_of own p) (event_of (swap_of p) None next) mem (place_of (going own next))) → GoesWell own next → Moves σ s own p
     removes_descriptor p n next ac pl pb hits misses gw =
         by_removal p x.first.address (65536 + d) n (Descriptor d) (descriptor d) next pr.task.first_address ac (descriptor_number d place.0 place.1) (ap meaning (told_descriptor d place.0 place.1)) refl pl pb hits misses gw
 
-    removes_mark : (p : CodePosition) (t n : ℕ) (next : Next) → t ≤ 15 → access_at m s p ≡ remove m x.second.address (Mark t d) n next → Plain m n → publishing p next b ≡ b → (word_of m x.second.address ≡ mark d t → Act s mem (position_of own p) (event_of (swap_of p) (WordWrite x.second.address n) next) (write mem x.second.address (plain n)) (place_of (going own next))) → (word_of m x.second.address ≢ mark d t → Act s mem (position_of own p) (event_of (swap_of p) Nothing next) mem (place_of (going own next))) → GoesWell own next → Moves σ s own p
+    removes_mark : (p : CodePosition) (t n : ℕ) (next : Next) → t ≤ 15 → access_at m s p ≡ remove m x.second.address (Mark t d) n next → Plain m n → publishing p next b ≡ b → (word_of m x.second.address ≡ mark d t → Act s mem (position_of own p) (event_of (swap_of p) (Some (WordWrite x.second.address n)) next) (write mem x.second.address (plain n)) (place_of (going own next))) → (word_of m x.second.address ≢ mark d t → Act s mem (position_of own p) (event_of (swap_of p) None next) mem (place_of (going own next))) → GoesWell own next → Moves σ s own p
     removes_mark p t n next k ac pl pb hits misses gw =
         by_removal p x.second.address (131072 + 4096 * t + d) n (Mark t d) (mark d t) next pr.task.second_address ac (mark_number t d k place.0 place.1) (ap meaning (told_mark t d k place.0 place.1)) refl pl pb hits misses gw
 
@@ -193,12 +195,12 @@ module _ (σ : System) (v : Valid σ) (s : ℕ) (low : s ≤ 15) (own : Bool) wh
     cleans_up (by_mark t) k = removes_mark (Clean d (by_mark t)) t x.second.old (Ended Helped) k (reads _) pr.task.second_old refl (λ h. clean_mark (hit h)) (λ h. clean_mark (miss h)) tt
 
     -- an access that writes nothing, and one that writes a result
-    only_reads : (p : CodePosition) (next : Next) → access_at m s p ≡ Ok (no_write next) → publishing p next b ≡ b → Act s mem (position_of own p) (event_of (swap_of p) Nothing next) mem (place_of (going own next)) → GoesWell own next → Moves σ s own p
+    only_reads : (p : CodePosition) (next : Next) → access_at m s p ≡ Ok (no_write next) → publishing p next b ≡ b → Act s mem (position_of own p) (event_of (swap_of p) None next) mem (place_of (going own next)) → GoesWell own next → Moves σ s own p
     only_reads p next ac pb act gw = record { effect = no_write next; computes = goes_on m s p (no_write next) low ac; acts = onto (ap (λ y. memory_of m y σ.owner) pb) act; writes_well = tt; goes_well = gw }
 
-    writes_result : (p : CodePosition) (r : ℕ) (next : Next) → access_at m s p ≡ Ok (result_write d r next) → publishing p next b ≡ b → Live (result_at m b d) → Act s mem (position_of own p) (event_of (swap_of p) (ResultWrite d r) next) (set_result mem d (outcome (b d) (outcome_of d r))) (place_of (going own next)) → GoesWell own next → Moves σ s own p
+    writes_result : (p : CodePosition) (r : ℕ) (next : Next) → access_at m s p ≡ Ok (result_write d r next) → publishing p next b ≡ b → Live (result_at m b d) → Act s mem (position_of own p) (event_of (swap_of p) (Some (ResultWrite d r)) next) (set_result mem d (outcome (b d) (outcome_of d r))) (place_of (going own next)) → GoesWell own next → Moves σ s own p
     writes_result p r next ac pb l act gw =
-        record { effect = result_write d r next; computes = goes_on m s p (result_write d r next) low ac; acts = onto (ap (λ y. memory_of (written (ResultWrite d r) m) y σ.owner) pb ∙ result_memory m b σ.owner d r pr.taken) act; writes_well = (pr, l); goes_well = gw }
+        record { effect = result_write d r next; computes = goes_on m s p (result_write d r next) low ac; acts = onto (ap (λ y. memory_of (written (Some (ResultWrite d r)) m) y σ.owner) pb ∙ result_memory m b σ.owner d r pr.taken) act; writes_well = (pr, l); goes_well = gw }
 
     -- the second word, read again
     re_read_access : (w : ℕ) (o : Option CodeWord) → told w ≡ o → word_at m x.second.address ≡ Ok w → access_at m s (ReRead d) ≡ Ok (no_write (At (re_reads d o)))

@@ -1,4 +1,5 @@
 -- What a write leaves of the tables.
+use Rattle.std.specs.Prelude.{None, Option, Some}
 use Rattle.std.proofs.Common.{◌≡◌, ℕ, ◌+◌, ◌-◌, ◌≤◌, max, true, false, cond, ◌&&◌, leb, ◌≢◌, List, length, get_or, set, Some, None, Ok, Err, Option, sym, refl, ap, ◌∙◌, subst, inl, inr, arith, length-set, get_or-set_other, get_or-set_same}
 use native.Mathlib.Decide.{ℕ_discrete}
 use Rattle.std.proofs.lemmas.Bool.Decides.{nat_tests, leb_tells}
@@ -9,10 +10,12 @@ use Rattle.records.specs.Tables.{zero_node}
 use Rattle.memory.specs.declared.address.Address.{Address as Place}
 use Rattle.memory.specs.declared.address.Address.TheVariants.{TrayWord, NextWord}
 use Rattle.memory.specs.Addresses.{addressed}
-use Rattle.memory.specs.Reads.{Seen, on_ok, is_taken, node_at, descriptor_at, word_in, word_at}
+use Rattle.memory.specs.Seen.{Seen, seen}
+use Rattle.memory.specs.Places.{is_taken}
+use Rattle.memory.specs.Reads.{on_ok, node_at, descriptor_at, word_in, word_at}
 use Rattle.memory.specs.Writes.{tray_word, next_word}
 use Rattle.swap_access.specs.declared.effect.Write.TheVariants.{Word as WordWrite, Result as ResultWrite}
-use Rattle.swap_step.specs.Steps.{view, written}
+use Rattle.swap_step.specs.Steps.{written}
 use Rattle.swap_step.specs.Writes.{with_result, results_with}
 use Rattle.swap_bridge.specs.Abstraction.{record_at}
 use Rattle.swap_bridge.specs.Valid.{Address}
@@ -41,7 +44,7 @@ placed a =
 
 -- the tables with word w at a place
 abbrev pub put : Seen → Option Place → ℕ → Seen
-put m p w = view (tray_word m.words p w) (next_word m.nodes 4095 p w) m.nodes_taken m.descriptors m.descriptors_taken
+put m p w = seen (tray_word m.words p w) (next_word m.nodes 4095 p w) m.nodes_taken m.descriptors m.descriptors_taken
 
 put_here : (m : Seen) (a w x : ℕ) (p : Option Place) → Placed a p → word_in m p ≡ Ok x → word_in (put m p w) p ≡ Ok w
 put_here m a w x (Some (TrayWord i)) (tray l) e = grind (arith, nat_tests, length-set, get_or-set_same)
@@ -57,10 +60,10 @@ put_there m a b w (Some (NextWord i)) (Some (NextWord j)) (next _ l1 h1 q1) (nex
 put_there m a b w (Some (NextWord i)) None (next _ _ _ _) none ne = refl
 put_there m a b w None q none k ne = refl
 
-pub wrote_here : (m : Seen) (a w : ℕ) → Address m a → word_at (written (WordWrite a w) m) a ≡ Ok w
+pub wrote_here : (m : Seen) (a w : ℕ) → Address m a → word_at (written (Some (WordWrite a w)) m) a ≡ Ok w
 wrote_here m a w (x, e) = put_here m a w x (addressed a) (placed a) e
 
-pub wrote_there : (m : Seen) (a b w : ℕ) → a ≢ b → word_at (written (WordWrite a w) m) b ≡ word_at m b
+pub wrote_there : (m : Seen) (a b w : ℕ) → a ≢ b → word_at (written (Some (WordWrite a w)) m) b ≡ word_at m b
 wrote_there m a b w h = put_there m a b w (addressed a) (addressed b) (placed a) (placed b) h
 
 -- what is taken and what can be read is so afterwards
@@ -75,12 +78,12 @@ next_length xs None w = refl
 next_length xs (Some (TrayWord i)) w = refl
 next_length xs (Some (NextWord n)) w = grind (arith, nat_tests, length-set)
 
-pub like_word : (m : Seen) (a w : ℕ) → Like m (written (WordWrite a w) m)
+pub like_word : (m : Seen) (a w : ℕ) → Like m (written (Some (WordWrite a w)) m)
 like_word m a w =
     record {
       nodes = λ n e. subst (λ k. is_taken k m.nodes_taken n ≡ true) (sym (next_length m.nodes (addressed a) w)) e;
       descriptors = λ d e. e;
-      addresses = λ b x. elim (ℕ_discrete a b) [ yes q ↦ (w, subst (λ c. word_at (written (WordWrite a w) m) c ≡ Ok w) q (wrote_here m a w (subst (Address m) (sym q) x))) | no h ↦ (x.0, wrote_there m a b w h ∙ x.1) ];
+      addresses = λ b x. elim (ℕ_discrete a b) [ yes q ↦ (w, subst (λ c. word_at (written (Some (WordWrite a w)) m) c ≡ Ok w) q (wrote_here m a w (subst (Address m) (sym q) x))) | no h ↦ (x.0, wrote_there m a b w h ∙ x.1) ];
     }
 
 pub like_filled : (m : Seen) (d : ℕ) (x : Record) → Like m (filled m d x)
@@ -98,12 +101,12 @@ pub taken_place : (m : Seen) (d : ℕ) → descriptor_at m d ≡ Ok (record_at m
 taken_place m d e = grind (arith, nat_tests)
 
 -- a written result is such a record
-pub written_result : (m : Seen) (d r : ℕ) → descriptor_at m d ≡ Ok (record_at m d) → written (ResultWrite d r) m ≡ filled m d (with_result (record_at m d) r)
+pub written_result : (m : Seen) (d r : ℕ) → descriptor_at m d ≡ Ok (record_at m d) → written (Some (ResultWrite d r)) m ≡ filled m d (with_result (record_at m d) r)
 written_result m d r e =
     let p = taken_place m d e in
     let k : max m.descriptors_taken d ≡ m.descriptors_taken = omega arith in
     let l : results_with m.descriptors d r ≡ set m.descriptors (d - 1) (with_result (record_at m d) r) = grind (arith, nat_tests) in
-    ap (λ xs. view m.words m.nodes m.nodes_taken xs m.descriptors_taken) l ∙ ap (λ n. view m.words m.nodes m.nodes_taken (set m.descriptors (d - 1) (with_result (record_at m d) r)) n) (sym k)
+    ap (λ xs. seen m.words m.nodes m.nodes_taken xs m.descriptors_taken) l ∙ ap (λ n. seen m.words m.nodes m.nodes_taken (set m.descriptors (d - 1) (with_result (record_at m d) r)) n) (sym k)
 
 -- one more node
 next_address : (n : ℕ) → 1 ≤ n → n ≤ 4095 → addressed (64 + n) ≡ Some (NextWord n)

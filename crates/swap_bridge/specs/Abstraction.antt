@@ -6,7 +6,8 @@ use Rattle.words.specs.declared.word.Word.TheVariants.{Nil, Node, Descriptor, Ma
 use Rattle.words.specs.Words.{told}
 use Rattle.records.specs.declared.entries.Descriptor.{Descriptor as Record}
 use Rattle.records.specs.Tables.{zero_descriptor}
-use Rattle.memory.specs.Reads.{Seen, descriptor_at, word_at}
+use Rattle.memory.specs.Seen.{Seen}
+use Rattle.memory.specs.Reads.{descriptor_at, word_at}
 use Rattle.memory.specs.declared.meaning.Outcome.{Outcome as CodeOutcome}
 use Rattle.memory.specs.declared.meaning.Outcome.TheVariants.{Undecided, Success, SecondFailed, DecidedBy}
 use Rattle.memory.specs.Meaning.{outcome_of}

@@ -1,13 +1,14 @@
 -- What the system may do, one thing at a time, with the machine's event for it.
-use Rattle.std.specs.Prelude.{◌≡◌, ℕ, ◌+◌, ◌-◌, ◌≤◌, max, Bool, true, false, cond, List, [], ◌∷◌, length, Some, Ok, ◌==◌, slice_set}
+use Rattle.std.specs.Prelude.{◌≡◌, ℕ, ◌+◌, ◌-◌, ◌≤◌, max, Bool, true, false, cond, List, [], ◌∷◌, length, Some, Ok, ◌==◌, slice_set, None, Option}
 use Rattle.words.specs.declared.word.Word.TheVariants.{Descriptor, Mark}
 use Rattle.words.specs.Words.{told}
 use Rattle.records.specs.declared.entries.Node.{Node}
 use Rattle.records.specs.declared.entries.Descriptor.{Descriptor as Record}
-use Rattle.memory.specs.Reads.{Seen, word_at}
+use Rattle.memory.specs.Seen.{Seen, seen}
+use Rattle.memory.specs.Reads.{word_at}
 use Rattle.swap_access.specs.declared.effect.Effect.{Effect}
 use Rattle.swap_access.specs.declared.effect.Write.{Write}
-use Rattle.swap_access.specs.declared.effect.Write.TheVariants.{Nothing, Word as WordWrite, Result as ResultWrite}
+use Rattle.swap_access.specs.declared.effect.Write.TheVariants.{Word as WordWrite, Result as ResultWrite}
 use Rattle.swap_access.specs.declared.position.Met.TheVariants.{Descriptor as by_descriptor, Mark as by_mark}
 use Rattle.swap_access.specs.declared.position.End.{End}
 use Rattle.swap_access.specs.declared.position.End.TheVariants.{FirstFailed, Success, SecondFailed, Helped}
@@ -16,7 +17,7 @@ use Rattle.swap_access.specs.declared.position.Next.TheVariants.{At, Ended}
 use Rattle.swap_access.specs.declared.position.Position.{Position}
 use Rattle.swap_access.specs.declared.position.Position.TheVariants.{Publish, ReadResult, Clean, PlaceMark, ReRead, TryToFail, GiveBack, Decide, FinishFirst, FinishSecond, WriteSuccess, Withdraw}
 use Rattle.swap.specs.Dispatch.{decided as decided_by_code}
-use Rattle.swap_step.specs.Steps.{view, written}
+use Rattle.swap_step.specs.Steps.{written}
 use Rattle.swap_machine.specs.Update.{update}
 use Rattle.swap_machine.specs.Machine.{fresh, scanner, Takes, Event, silent, swapped, decided, first_failed, answers}
 use Rattle.swap_bridge.specs.Systems.{Standing, resting, working, System}
@@ -46,11 +47,11 @@ end_event d SecondFailed = answers d false
 end_event d Helped = silent
 
 -- what is learnt of an access: a result other than 3 that does not end the swap decides it
-abbrev pub event_of : ℕ → Write → Next → Event
+abbrev pub event_of : ℕ → Option Write → Next → Event
 event_of d w (Ended e) = end_event d e
-event_of d Nothing (At p) = silent
-event_of d (WordWrite a w) (At p) = silent
-event_of d (ResultWrite e r) (At p) = cond (r == 3) silent (decided e)
+event_of d None (At p) = silent
+event_of d (Some (WordWrite a w)) (At p) = silent
+event_of d (Some (ResultWrite e r)) (At p) = cond (r == 3) silent (decided e)
 
 -- where the scanner stands then
 abbrev pub going : Bool → Next → Standing
@@ -85,11 +86,11 @@ after σ s own p f =
 
 -- the tables with another record for descriptor d, which is taken then
 abbrev pub filled : Seen → ℕ → Record → Seen
-filled m d x = view m.words m.nodes m.nodes_taken (slice_set m.descriptors (d - 1) x) (max m.descriptors_taken d)
+filled m d x = seen m.words m.nodes m.nodes_taken (slice_set m.descriptors (d - 1) x) (max m.descriptors_taken d)
 
 -- the tables with one more node taken
 abbrev pub grown : Seen → Node → Seen
-grown m x = view m.words (slice_set m.nodes m.nodes_taken x) (m.nodes_taken + 1) m.descriptors m.descriptors_taken
+grown m x = seen m.words (slice_set m.nodes m.nodes_taken x) (m.nodes_taken + 1) m.descriptors m.descriptors_taken
 
 -- scanner s goes to another standing, over other tables
 abbrev pub moved : System → Seen → ℕ → Standing → System
@@ -125,7 +126,7 @@ pub data Does (σ : System) : Event → System → Type 0 where
   -- a scanner in a swap makes the access that the code makes
   steps : (s : ℕ) (own : Bool) (p : Position) (f : Effect) → σ.standing s ≡ working own p → decided_by_code σ.tables s p ≡ Ok f → Does σ (event_of (swap_of p) f.write f.next) (after σ s own p f)
   -- a scanner outside any swap writes one plain word over another
-  swaps : (s a x y : ℕ) → σ.standing s ≡ resting → word_at σ.tables a ≡ Ok x → Plain σ.tables x → Plain σ.tables y → Does σ (swapped a x y) (moved σ (written (WordWrite a y) σ.tables) s resting)
+  swaps : (s a x y : ℕ) → σ.standing s ≡ resting → word_at σ.tables a ≡ Ok x → Plain σ.tables x → Plain σ.tables y → Does σ (swapped a x y) (moved σ (written (Some (WordWrite a y)) σ.tables) s resting)
   -- it takes the next node and fills it in; to the machine, which knows no counts, the next word of that node was nil until then
   takes_node : (s : ℕ) (x : Node) → σ.standing s ≡ resting → σ.tables.nodes_taken + 1 ≤ length σ.tables.nodes → Plain σ.tables x.next → Does σ (swapped (64 + (σ.tables.nodes_taken + 1)) 0 x.next) (moved σ (grown σ.tables x) s resting)
   -- it prepares a swap of its own

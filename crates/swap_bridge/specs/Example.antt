@@ -1,8 +1,8 @@
 -- A run of the system: scanner 0 swaps tray word 0 from nil to node 1 and tray word 1 from nil to node 2. The theorem is not about nothing.
+use Rattle.memory.specs.Seen.{seen}
 use Rattle.std.specs.Prelude.{◌≡◌, true, false, List, [], ◌∷◌}
 use Rattle.records.specs.declared.entries.Descriptor.{Descriptor as Record}
 use Rattle.records.specs.Tables.{zero_node, zero_descriptor}
-use Rattle.swap_step.specs.Steps.{view}
 use Rattle.swap_machine.specs.Machine.{nobody, Event, answers}
 use Rattle.swap_bridge.specs.Systems.{resting, System}
 use Rattle.swap_bridge.specs.Does.{Runs}
@@ -12,7 +12,7 @@ use Rattle.swap_bridge.specs.Theorems.{Begins}
 abbrev pub beginning : System
 beginning =
     record {
-      tables = view (0 ∷ (0 ∷ [])) (zero_node ∷ (zero_node ∷ [])) 2 (zero_descriptor ∷ []) 0;
+      tables = seen (0 ∷ (0 ∷ [])) (zero_node ∷ (zero_node ∷ [])) 2 (zero_descriptor ∷ []) 0;
       standing = λ s. resting;
       owner = λ d. nobody;
       published = λ d. false;

@@ -1,6 +1,6 @@
 -- The tables with the scanners that work on them.
 use Rattle.std.specs.Prelude.{ℕ, Bool}
-use Rattle.memory.specs.Reads.{Seen}
+use Rattle.memory.specs.Seen.{Seen}
 use Rattle.swap_access.specs.declared.position.Position.{Position}
 use Rattle.swap_machine.specs.Machine.{Owner}
 

@@ -1,6 +1,7 @@
 -- The theorems.
 use Rattle.std.specs.Prelude.{◌≡◌, ℕ, Bool, true, false, List, Some, Ok}
-use Rattle.memory.specs.Reads.{Seen, word_at}
+use Rattle.memory.specs.Seen.{Seen}
+use Rattle.memory.specs.Reads.{word_at}
 use Rattle.memory.specs.declared.meaning.Outcome.TheVariants.{Undecided}
 use Rattle.memory.specs.Meaning.{outcome_of, stands_for as code_stands_for}
 use Rattle.swap_access.specs.declared.effect.Effect.{Effect}

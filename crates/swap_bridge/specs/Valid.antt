@@ -2,7 +2,8 @@
 use Rattle.std.specs.Prelude.{◌≡◌, ℕ, ◌≤◌, Bool, true, false, length, Some, Ok}
 use Rattle.words.specs.Words.{told}
 use Rattle.records.specs.declared.entries.Descriptor.{Descriptor as Record}
-use Rattle.memory.specs.Reads.{Seen, descriptor_at, word_at}
+use Rattle.memory.specs.Seen.{Seen}
+use Rattle.memory.specs.Reads.{descriptor_at, word_at}
 use Rattle.memory.specs.declared.meaning.Outcome.TheVariants.{Undecided}
 use Rattle.memory.specs.Meaning.{plain, outcome_of}
 use Rattle.swap_access.specs.Found.{known}

@@ -1,7 +1,7 @@
 // Shows a two-word swap that one scanner begins and another finishes, with what both addresses stand for after each step.
 #![tactic(auto)]
 
-use anyhow::anyhow;
+use anyhow::bail;
 use memory::view::Memory;
 use records::entries::{Descriptor, Node, Swap};
 use swap_access::position::{End, Met, Next, Position};
@@ -22,48 +22,13 @@ const MOVE: Descriptor = Descriptor {
     result: 1,
 };
 
-fn name(at: Position) -> &'static str {
-    match at {
-        Position::Publish { .. } => "publish",
-        Position::ReadResult { .. } => "read result",
-        Position::Clean { .. } => "clean",
-        Position::PlaceMark { .. } => "place mark",
-        Position::ReRead { .. } => "re-read",
-        Position::TryToFail { .. } => "try to fail",
-        Position::GiveBack { .. } => "give back",
-        Position::Decide { .. } => "decide",
-        Position::FinishFirst { .. } => "finish first",
-        Position::FinishSecond { .. } => "finish second",
-        Position::WriteSuccess { .. } => "write success",
-        Position::Withdraw { .. } => "withdraw",
-    }
-}
-
-fn ending(end: End) -> &'static str {
-    match end {
-        End::FirstFailed => "first failed",
-        End::Success => "success",
-        End::SecondFailed => "second failed",
-        End::Helped => "helped",
-    }
-}
-
 // What the word at an address stands for.
-fn stands_for<'a>(
-    words: &'a [u32],
-    nodes: &'a [Node],
-    descriptors: &'a [Descriptor],
-    address: usize,
-) -> u32 {
-    let memory = Memory {
-        words,
-        nodes,
-        nodes_taken: 1,
-        descriptors,
-        descriptors_taken: 1,
-    };
-    let word = words.get(address).copied().unwrap_or(0);
-    memory.stands_for(word).ok().unwrap_or(0)
+fn stands_for(words: &[u32], nodes: &[Node], descriptors: &[Descriptor], address: u32) -> u32 {
+    let memory = Memory::new(words, nodes, 1, descriptors, 1);
+    let meant = memory
+        .word_at(address)
+        .and_then(|word| memory.stands_for(word));
+    meant.unwrap_or(0)
 }
 
 // At most so many steps of a scanner, each with its line; where it stands then, or none after its end.
@@ -78,18 +43,16 @@ fn steps(
 ) -> anyhow::Result<Option<Position>> {
     let mut at = from;
     for _ in 0..most {
-        let done = name(at);
         let next = match step(words, nodes, 1, descriptors, 1, scanner, at) {
             Ok(next) => next,
-            Err(refusal) => return Err(anyhow!(format!(in rt.alloc(); "refused with {refusal}")?)),
+            Err(refusal) => bail!("refused with {refusal}"),
         };
         let first = stands_for(words, nodes, descriptors, 0);
         let second = stands_for(words, nodes, descriptors, 2);
-        println!(rt; "scanner {scanner}: {done}: 0 stands for {first}, 2 stands for {second}")?;
+        println!(rt; "scanner {scanner}: {at}: 0 stands for {first}, 2 stands for {second}")?;
         match next {
             Next::At(position) => at = position,
             Next::Ended(end) => {
-                let end = ending(end);
                 println!(rt; "scanner {scanner} ends: {end}")?;
                 return Ok(None);
             }

@@ -1,5 +1,5 @@
 -- A step writes at most one word or one result, and changes nothing else.
-use Rattle.std.specs.Prelude.{◌≡◌, ℕ, ◌-◌, ◌≤◌, List, get_or, Ok, Err, Result, ◌≢◌, slice_index_or}
+use Rattle.std.specs.Prelude.{◌≡◌, ℕ, ◌-◌, ◌≤◌, List, get_or, Ok, Err, Result, ◌≢◌, slice_index_or, Some, None, Option}
 use Rattle.refusals.specs.declared.refusal.Refusal.{Refusal}
 use Rattle.records.specs.declared.entries.Node.{Node}
 use Rattle.records.specs.declared.entries.Descriptor.{Descriptor}
@@ -7,7 +7,7 @@ use Rattle.records.specs.Tables.{zero_node, zero_descriptor}
 use Rattle.memory.specs.Reads.{word_at}
 use Rattle.memory.specs.Writes.{shared}
 use Rattle.swap_access.specs.declared.effect.Write.{Write}
-use Rattle.swap_access.specs.declared.effect.Write.TheVariants.{Nothing, Word, Result as ResultOf}
+use Rattle.swap_access.specs.declared.effect.Write.TheVariants.{Word, Result as ResultOf}
 
 -- what the tables hold
 pub record Held : Type 0 where
@@ -40,14 +40,14 @@ pub record OnlyResult (before after : Held) (place : ℕ) : Type 0 where
   pub nodes : after.nodes ≡ before.nodes
 
 -- what a write may change
-abbrev pub Only : Write → Held → Held → Type 0
-Only Nothing before after = after ≡ before
-Only (Word a w) before after = OnlyWord before after a
-Only (ResultOf d r) before after = OnlyResult before after d
+abbrev pub Only : Option Write → Held → Held → Type 0
+Only None before after = after ≡ before
+Only (Some (Word a w)) before after = OnlyWord before after a
+Only (Some (ResultOf d r)) before after = OnlyResult before after d
 
 -- one access: nothing, one word or one result has changed
 pub record OneAccess (before after : Held) : Type 0 where
-  pub write : Write
+  pub write : Option Write
   pub rest : Only write before after
 
 -- a refusal leaves every table as found

@@ -1,9 +1,8 @@
 -- One step of a scanner in a two-word swap.
-use Rattle.std.specs.Prelude.{ℕ, List, Ok, Err, Result}
+use Rattle.std.specs.Prelude.{ℕ, Ok, Err, Result, Option}
 use Rattle.refusals.specs.declared.refusal.Refusal.{Refusal}
-use Rattle.records.specs.declared.entries.Node.{Node}
-use Rattle.records.specs.declared.entries.Descriptor.{Descriptor}
-use Rattle.memory.specs.Reads.{Seen, on_ok}
+use Rattle.memory.specs.Seen.{Seen, seen}
+use Rattle.memory.specs.Reads.{on_ok}
 use Rattle.swap_access.specs.declared.effect.Effect.{Effect}
 use Rattle.swap_access.specs.declared.effect.Write.{Write}
 use Rattle.swap_access.specs.declared.position.Next.{Next}
@@ -11,17 +10,13 @@ use Rattle.swap_access.specs.declared.position.Position.{Position}
 use Rattle.swap.specs.Dispatch.{decided}
 use Rattle.swap_step.specs.Writes.{words_after, nodes_after, descriptors_after}
 
-abbrev pub view : List ℕ → List Node → ℕ → List Descriptor → ℕ → Seen
-view words nodes nodes_taken descriptors descriptors_taken =
-    record { words = words; nodes = nodes; nodes_taken = nodes_taken; descriptors = descriptors; descriptors_taken = descriptors_taken }
-
 -- where the scanner stands after the step
 abbrev pub stepped : Seen → ℕ → Position → Result Next Refusal
 stepped m me at = on_ok (decided m me at) λ e. Ok e.next
 
 -- the tables after a write
-abbrev pub written : Write → Seen → Seen
-written w m = view (words_after w m.words) (nodes_after w m.nodes) m.nodes_taken (descriptors_after w m.descriptors) m.descriptors_taken
+abbrev pub written : Option Write → Seen → Seen
+written w m = seen (words_after w m.words) (nodes_after w m.nodes) m.nodes_taken (descriptors_after w m.descriptors) m.descriptors_taken
 
 -- the tables after an access: a refusal leaves them as found
 abbrev pub left_by : Result Effect Refusal → Seen → Seen

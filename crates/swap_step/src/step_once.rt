@@ -1,6 +1,7 @@
 // One step.
 ghost use Rattle.std.specs.Prelude.{◌≡◌};
-ghost use Rattle.swap_step.specs.Steps.{view, stepped, left};
+ghost use Rattle.memory.specs.Seen.{seen};
+ghost use Rattle.swap_step.specs.Steps.{stepped, left};
 ghost use Rattle.swap_step.specs.Laws.{held, RefusedUnchanged, OneAccess};
 
 use crate::writes::apply;
@@ -20,19 +21,13 @@ pub fn step(
     scanner: u32,
     at: Position,
 ) -> Result<Next, Refusal>
-    ensures answer { result ≡ stepped (view words.old nodes.old nodes_taken descriptors.old descriptors_taken) scanner at }
-    ensures tables { view words.new nodes.new nodes_taken descriptors.new descriptors_taken ≡ left (view words.old nodes.old nodes_taken descriptors.old descriptors_taken) scanner at }
+    ensures answer { result ≡ stepped (seen words.old nodes.old nodes_taken descriptors.old descriptors_taken) scanner at }
+    ensures tables { seen words.new nodes.new nodes_taken descriptors.new descriptors_taken ≡ left (seen words.old nodes.old nodes_taken descriptors.old descriptors_taken) scanner at }
     ensures refused { RefusedUnchanged result (held words.old nodes.old descriptors.old) (held words.new nodes.new descriptors.new) }
     ensures law { OneAccess (held words.old nodes.old descriptors.old) (held words.new nodes.new descriptors.new) }
 {
-    let memory = Memory {
-        words,
-        nodes,
-        nodes_taken,
-        descriptors,
-        descriptors_taken,
-    };
-    let effect = decide(memory, scanner, at)?;
+    let memory = Memory::new(words, nodes, nodes_taken, descriptors, descriptors_taken);
+    let effect = decide(&memory, scanner, at)?;
     apply(effect.write, words, nodes, descriptors);
     Ok(effect.next)
 }

@@ -9,19 +9,24 @@ use swap_access::effect::Write;
 use words::told::LAST_PLACE;
 
 // Writes what an access writes; what stands in no table changes nothing.
-pub fn apply(write: Write, words: &mut [u32], nodes: &mut [Node], descriptors: &mut [Descriptor])
+pub fn apply(
+    write: Option<Write>,
+    words: &mut [u32],
+    nodes: &mut [Node],
+    descriptors: &mut [Descriptor],
+)
     ensures words { words.new ≡ words_after write words.old }
     ensures nodes { nodes.new ≡ nodes_after write nodes.old }
     ensures descriptors { descriptors.new ≡ descriptors_after write descriptors.old }
     ensures law { Only write (held words.old nodes.old descriptors.old) (held words.new nodes.new descriptors.new) }
 {
     match write {
-        Write::Nothing => {}
-        Write::Word { address, word } => {
+        None => {}
+        Some(Write::Word { address, word }) => {
             // which places are taken was checked where the access was found
             let _ = write_word(words, nodes, LAST_PLACE, address, word);
         }
-        Write::Result { descriptor, result } => write_result(descriptors, descriptor, result),
+        Some(Write::Result { descriptor, result }) => write_result(descriptors, descriptor, result),
     }
 }
 

@@ -10,7 +10,6 @@ mod tests {
     use std::test::Fail;
     use swap_access::position::{Met, Next, Position};
     use swap_step::step_once::step;
-    use words::told::tell;
     use words::word::Word;
 
     // Address 0 is to go from node 1 to nil, and address 2 from nil to node 1.
@@ -28,30 +27,26 @@ mod tests {
         result: 1,
     };
 
-    fn stands_for<'a>(
-        words: &'a [u32],
-        nodes: &'a [Node],
-        descriptors: &'a [Descriptor],
-        address: usize,
+    // What the word at an address stands for.
+    fn stands_for(
+        words: &[u32],
+        nodes: &[Node],
+        descriptors: &[Descriptor],
+        address: u32,
     ) -> Result<u32, Refusal> {
-        let memory = Memory {
-            words,
-            nodes,
-            nodes_taken: 2,
-            descriptors,
-            descriptors_taken: 1,
-        };
-        memory.stands_for(words.get(address).copied().unwrap_or(0))
+        let memory = Memory::new(words, nodes, 2, descriptors, 1);
+        memory.stands_for(memory.word_at(address)?)
     }
 
     // Where a scanner begins to help that reads an address; none where it finds nil or a node.
     fn meets(words: &[u32], address: usize) -> Option<Position> {
-        match tell(words.get(address).copied().unwrap_or(0)) {
-            Some(Word::Descriptor(descriptor)) => Some(Position::ReadResult {
+        let number = words.get(address).copied().unwrap_or(0);
+        match Word::try_from(number) {
+            Ok(Word::Descriptor(descriptor)) => Some(Position::ReadResult {
                 descriptor,
                 met: Met::Descriptor,
             }),
-            Some(
+            Ok(
                 Word::Mark {
                     scanner,
                     descriptor,

@@ -6,7 +6,9 @@ use Rattle.refusals.specs.declared.refusal.Refusal.TheVariants.{Torn}
 use Rattle.records.specs.Tables.{zero_node}
 use Rattle.memory.specs.declared.address.Address.TheVariants.{TrayWord, NextWord}
 use Rattle.memory.specs.Addresses.{addressed}
-use Rattle.memory.specs.Reads.{Seen, on_ok, is_taken, node_at, word_in, word_at}
+use Rattle.memory.specs.Seen.{Seen}
+use Rattle.memory.specs.Places.{is_taken}
+use Rattle.memory.specs.Reads.{on_ok, node_at, word_in, word_at}
 use Rattle.memory.specs.Meaning.{stands_for}
 use Rattle.kinds.specs.Views.{View}
 use Rattle.kinds.specs.Walks.{walk}

@@ -1,6 +1,7 @@
 -- What a walk gives, in tables that are whole.
 use Rattle.std.specs.Prelude.{◌≡◌, ℕ, ◌+◌, ◌*◌, ◌<◌, ◌≤◌, List, [], ◌∷◌, Ok}
-use Rattle.memory.specs.Reads.{Seen, word_at}
+use Rattle.memory.specs.Seen.{Seen}
+use Rattle.memory.specs.Reads.{word_at}
 use Rattle.memory.specs.Meaning.{stands_for}
 use Rattle.kinds.specs.Views.{View}
 use Rattle.kinds.specs.Walks.{walk}

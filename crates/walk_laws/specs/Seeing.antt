@@ -1,7 +1,8 @@
 -- The tables as a kind of tray sees them.
 use Rattle.std.specs.Prelude.{◌≡◌, ℕ, ◌+◌, ◌<◌, ◌≤◌, length, Ok, Err, Result}
 use Rattle.refusals.specs.declared.refusal.Refusal.{Refusal}
-use Rattle.memory.specs.Reads.{Seen, on_ok, node_at, word_at}
+use Rattle.memory.specs.Seen.{Seen}
+use Rattle.memory.specs.Reads.{on_ok, node_at, word_at}
 use Rattle.memory.specs.Meaning.{stands_for}
 use Rattle.kinds.specs.Views.{View}
 

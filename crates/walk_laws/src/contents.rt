@@ -2,10 +2,8 @@
 // statement.
 ghost use Rattle.walk_laws.specs.Contents.{WalkGivesParcels, WalkGivesStack, WalkGivesQueue};
 
-pub fn walk_gives_contents() -> u8
+pub fn walk_gives_contents()
     ensures parcels { WalkGivesParcels }
     ensures stack { WalkGivesStack }
     ensures queue { WalkGivesQueue }
-{
-    0
-}
+{}

@@ -3,7 +3,8 @@ use Rattle.std.proofs.Common.{◌≡◌, ℕ, zero, suc, ◌+◌, ◌<◌, ◌�
 use Rattle.std.proofs.lemmas.List.{length-take-le, take_all, drop_all, take_more, drop_more, set_at}
 use Rattle.refusals.specs.declared.refusal.Refusal.{Refusal}
 use Rattle.records.specs.declared.entries.Node.{Node}
-use Rattle.memory.specs.Reads.{Seen, on_ok}
+use Rattle.memory.specs.Seen.{Seen}
+use Rattle.memory.specs.Reads.{on_ok}
 use Rattle.walks.specs.Walked.{led_to, onward, walked_below, walked, counted, laid}
 
 -- of the walk r, after i places: the word w is next, and the parcels `before` have become `now`

@@ -3,7 +3,8 @@ use Rattle.std.proofs.Common.{◌≡◌, ℕ, suc, ◌+◌, ◌-◌, ◌<◌, �
 use Rattle.refusals.specs.declared.refusal.Refusal.{Refusal}
 use Rattle.refusals.specs.declared.refusal.Refusal.TheVariants.{Torn}
 use Rattle.records.specs.declared.entries.Node.{Node}
-use Rattle.memory.specs.Reads.{Seen, on_ok}
+use Rattle.memory.specs.Seen.{Seen}
+use Rattle.memory.specs.Reads.{on_ok}
 use Rattle.walks.specs.Walked.{led_to, onward, walked_below, walked, counted}
 
 abbrev pub counted_on : ℕ → Result (List ℕ) Refusal → Result ℕ Refusal

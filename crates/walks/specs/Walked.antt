@@ -3,7 +3,8 @@ use Rattle.std.specs.Prelude.{ℕ, zero, suc, cond, List, [], ◌∷◌, ◌++�
 use Rattle.refusals.specs.declared.refusal.Refusal.{Refusal}
 use Rattle.refusals.specs.declared.refusal.Refusal.TheVariants.{Torn}
 use Rattle.records.specs.declared.entries.Node.{Node}
-use Rattle.memory.specs.Reads.{Seen, on_ok, node_at}
+use Rattle.memory.specs.Seen.{Seen}
+use Rattle.memory.specs.Reads.{on_ok, node_at}
 use Rattle.memory.specs.Meaning.{stands_for}
 
 -- the node to which a word leads: none from nil

@@ -1,7 +1,6 @@
 // A walk along next words, by what the words stand for. It goes through at most as many nodes as are taken, since a
 // longer one comes to some node twice and would never end.
 ghost use Rattle.std.specs.Prelude.{◌≡◌};
-ghost use Rattle.memory.specs.Reads.{seen};
 ghost use Rattle.walks.specs.Walked.{led_to, counted, walked, laid};
 
 use memory::view::Memory;
@@ -9,22 +8,22 @@ use records::entries::Node;
 use refusals::refusal::Refusal;
 
 // The node to which a word leads: none from nil.
-fn led_to(memory: Memory, word: u32) -> Result<Option<Node>, Refusal>
-    ensures { result ≡ led_to (seen memory.entry) word }
+fn led_to(memory: &Memory<'_>, word: u32) -> Result<Option<Node>, Refusal>
+    ensures { result ≡ led_to memory.now word }
 {
     let place = memory.stands_for(word)?;
     if place == 0 {
         return Ok(None);
     }
-    Ok(Some(memory.node(place)?))
+    memory.node(place).map(Some)
 }
 
 // How many parcels lie along next words from a word on.
-pub fn count_parcels(memory: Memory, from: u32) -> Result<usize, Refusal>
-    ensures { result ≡ counted (walked (seen memory.entry) memory.entry.nodes_taken from) }
+pub fn count_parcels(memory: &Memory<'_>, from: u32) -> Result<usize, Refusal>
+    ensures { result ≡ counted (walked memory.now memory.now.nodes_taken from) }
 {
     let mut word = from;
-    for count in 0..=memory.nodes_taken as usize {
+    for count in 0..=memory.nodes_taken() as usize {
         match led_to(memory, word)? {
             Some(node) => word = node.next,
             None => return Ok(count),
@@ -35,9 +34,9 @@ pub fn count_parcels(memory: Memory, from: u32) -> Result<usize, Refusal>
 
 // Writes them into `parcels` from its front on, as many as it has room for; answers how many there are. The count comes
 // first, so that a walk that is torn writes nothing.
-pub fn copy_parcels(memory: Memory, from: u32, parcels: &mut [u32]) -> Result<usize, Refusal>
-    ensures answer { result ≡ counted (walked (seen memory.entry) memory.entry.nodes_taken from) }
-    ensures after { parcels.new ≡ laid (walked (seen memory.entry) memory.entry.nodes_taken from) parcels.old }
+pub fn copy_parcels(memory: &Memory<'_>, from: u32, parcels: &mut [u32]) -> Result<usize, Refusal>
+    ensures answer { result ≡ counted (walked memory.now memory.now.nodes_taken from) }
+    ensures after { parcels.new ≡ laid (walked memory.now memory.now.nodes_taken from) parcels.old }
 {
     let count = count_parcels(memory, from)?;
     let mut word = from;
@@ -56,13 +55,7 @@ mod tests {
     use super::*;
 
     fn of_two(nodes: &[Node]) -> Memory<'_> {
-        Memory {
-            words: &[],
-            nodes,
-            nodes_taken: 2,
-            descriptors: &[],
-            descriptors_taken: 0,
-        }
+        Memory::new(&[], nodes, 2, &[], 0)
     }
 
     #[test]
@@ -86,14 +79,12 @@ mod tests {
             },
         ];
         let mut parcels = [0u32; 3];
-        assert!(rt; matches!(count_parcels(of_two(&chain), 1), Ok(2)));
-        assert!(rt; matches!(copy_parcels(of_two(&chain), 1, &mut parcels), Ok(2)));
+        assert_eq!(rt; count_parcels(&of_two(&chain), 1), Ok(2));
+        assert_eq!(rt; copy_parcels(&of_two(&chain), 1, &mut parcels), Ok(2));
         assert_eq!(rt; parcels, [70, 90, 0]);
-        assert!(rt;
-            matches!(
-                copy_parcels(of_two(&ring), 1, &mut parcels),
-                Err(Refusal::Torn)
-            )
+        assert_eq!(rt;
+            copy_parcels(&of_two(&ring), 1, &mut parcels),
+            Err(Refusal::Torn)
         );
         assert_eq!(rt; parcels, [70, 90, 0]);
     }

@@ -1,9 +1,11 @@
 // A number told apart as a word, and a word's number.
-ghost use Rattle.std.specs.Prelude.{◌≡◌, Some, MatchOption, ◌≢◌};
+ghost use Rattle.std.specs.Prelude.{◌≡◌, Some, None, MatchResult, ◌≢◌};
+ghost use Rattle.refusals.specs.declared.refusal.Refusal.TheVariants.{Torn};
 ghost use Rattle.words.specs.declared.word.Word.{Word};
 ghost use Rattle.words.specs.Words.{is_place, told, coded, Proper};
 
 use crate::word::Word;
+use refusals::refusal::Refusal;
 
 // The highest place of a node or of a descriptor that a word can name; so no table has more places.
 pub const LAST_PLACE: u32 = 4095;
@@ -19,43 +21,49 @@ const MARKS: u32 = 131072;
 fn is_place(place: u32) -> bool
     ensures { result ≡ is_place place }
 {
-    place >= 1 && place <= LAST_PLACE
+    (1..=LAST_PLACE).contains(&place)
 }
 
-// What the number says as a word: none where it is no word's number.
-pub fn tell(number: u32) -> Option<Word>
-    ensures value { result ≡ told number }
-    ensures law { MatchOption result ((w : Word) → coded w ≢ Some number) (λ w. coded w ≡ Some number) }
-{
-    match number {
-        0 => Some(Word::Nil),
-        1..=4095 => Some(Word::Node(number)),
-        65537..=69631 => Some(Word::Descriptor(number - DESCRIPTORS)),
-        131072..=196607 if number % 4096 != 0 => Some(Word::Mark {
-            scanner: (number - MARKS) / 4096,
-            descriptor: number % 4096,
-        }),
-        _ => None,
+// What a number says as a word; a number that is no word's is torn.
+impl TryFrom<u32> for Word {
+    type Error = Refusal;
+
+    fn try_from(number: u32) -> Result<Word, Refusal>
+        ensures value { MatchResult result (λ w. told number ≡ Some w) (λ e. (e ≡ Torn) × (told number ≡ None)) }
+        ensures law { MatchResult result (λ w. coded w ≡ Some number) (λ e. (w : Word) → coded w ≢ Some number) }
+    {
+        match number {
+            0 => Ok(Word::Nil),
+            1..=4095 => Ok(Word::Node(number)),
+            65537..=69631 => Ok(Word::Descriptor(number - DESCRIPTORS)),
+            131072..=196607 if number % 4096 != 0 => Ok(Word::Mark {
+                scanner: (number - MARKS) / 4096,
+                descriptor: number % 4096,
+            }),
+            _ => Err(Refusal::Torn),
+        }
     }
 }
 
-impl Word {
-    // The word's number: none where it names a place or a scanner that no word can name.
-    pub fn number(self) -> Option<u32>
-        ensures value { result ≡ coded self }
-        ensures law { MatchOption result (Proper self → ⊥) (λ n. (told n ≡ Some self) × Proper self) }
+// A word's number; a word that names a place or a scanner that no word can name is torn.
+impl TryFrom<Word> for u32 {
+    type Error = Refusal;
+
+    fn try_from(word: Word) -> Result<u32, Refusal>
+        ensures value { MatchResult result (λ n. coded word ≡ Some n) (λ e. (e ≡ Torn) × (coded word ≡ None)) }
+        ensures law { MatchResult result (λ n. (told n ≡ Some word) × Proper word) (λ e. Proper word → ⊥) }
     {
-        match self {
-            Word::Nil => Some(0),
-            Word::Node(place) if is_place(place) => Some(place),
-            Word::Descriptor(place) if is_place(place) => Some(DESCRIPTORS + place),
+        match word {
+            Word::Nil => Ok(0),
+            Word::Node(place) if is_place(place) => Ok(place),
+            Word::Descriptor(place) if is_place(place) => Ok(DESCRIPTORS + place),
             Word::Mark {
                 scanner,
                 descriptor,
             } if scanner <= LAST_SCANNER && is_place(descriptor) => {
-                Some(MARKS + 4096 * scanner + descriptor)
+                Ok(MARKS + 4096 * scanner + descriptor)
             }
-            _ => None,
+            _ => Err(Refusal::Torn),
         }
     }
 }

@@ -1,5 +1,5 @@
 // What a 32-bit word of the shared tables can say.
-#[derive(Clone, Copy)]
+#[derive(Clone, Copy, PartialEq, Eq, Debug)]
 pub enum Word {
     // no node: the end of a chain
     Nil,
