@@ -1,7 +1,5 @@
 -- A change of the trays by the plain rule is what the plain lists do, where they hold the same.
-use mathlib.Core.Path.{◌≡◌, refl, sym, ◌∙◌, ap}
-use mathlib.Core.Logic.{◌≢◌}
-use Prim.Native.Nat.{ℕ, ◌<◌}
+use Rattle.std.proofs.Common.{◌≡◌, refl, sym, ◌∙◌, ap, ◌≢◌, ℕ, ◌<◌}
 use Rattle.records.specs.declared.scanner.Wish.{Wish}
 use Rattle.records.specs.declared.scanner.Wish.TheVariants.{Put, Take, Move}
 use Rattle.kinds.specs.Plain.{Rule, adds, yields}

@@ -1,10 +1,6 @@
 -- The ledger: all requests that took effect, or met their tray empty, or were worn, in that order, the last first; and what is kept about it.
 -- It says nothing of memory: a scanner's request is off, waiting or effected.
-use mathlib.Core.Path.{◌≡◌}
-use mathlib.Core.Bool.{Bool, true, false, cond}
-use mathlib.Core.List.{List, [], ◌∷◌}
-use Prim.Native.Nat.{ℕ, ◌+◌, ◌<◌, ◌≤◌}
-use lib.Dec.{eqb}
+use Rattle.std.proofs.Common.{◌≡◌, Bool, true, false, cond, List, [], ◌∷◌, ℕ, ◌+◌, ◌<◌, ◌≤◌, eqb}
 use Rattle.records.specs.declared.scanner.Wish.{Wish}
 use Rattle.kinds.specs.Plain.{Rule}
 use Rattle.history.specs.Events.{Answer, gave, was_empty, worn, Story, hand_ins, Numbered, Handed, Answered, changes, effects}

@@ -1,9 +1,5 @@
 -- The change of a request is of the parcel that it was answered with: the moments and the one order tell the same effects one after the other.
-use mathlib.Core.Path.{◌≡◌, refl, sym, ◌∙◌, ap, subst}
-use mathlib.Core.Logic.{inl, inr}
-use mathlib.Core.List.{List, [], ◌∷◌}
-use Prim.Native.Nat.{ℕ, ◌<◌, ◌≤◌}
-use native.Mathlib.Omega.{arith}
+use Rattle.std.proofs.Common.{◌≡◌, refl, sym, ◌∙◌, ap, subst, inl, inr, List, [], ◌∷◌, ℕ, ◌<◌, ◌≤◌, arith}
 use Rattle.records.specs.declared.scanner.Wish.{Wish}
 use Rattle.kinds.specs.Plain.{Rule}
 use Rattle.history.specs.Events.{Answer, gave, was_empty, worn, Event, handed, quiet, caused, answered, Story, Hands, hand_ins, Numbers, Numbered, Handed, Answered, changes, effects}

@@ -1,11 +1,5 @@
 -- The changes of the plain lists: the plain rule inserts and removes one parcel, and what the plain lists answer names the change that they make.
-use mathlib.Core.Path.{◌≡◌, refl, sym, ◌∙◌, ap, subst}
-use mathlib.Core.List.{List, [], ◌∷◌, ◌++◌}
-use Prim.Native.Nat.{ℕ, zero, suc, ◌<◌}
-use native.Mathlib.Nat.{le_of_suc-le-suc}
-use native.Mathlib.Numerals.{add-one}
-use native.Mathlib.Omega.{arith}
-use lib.ListN.{length, take, drop, get_or}
+use Rattle.std.proofs.Common.{◌≡◌, refl, sym, ◌∙◌, ap, subst, List, [], ◌∷◌, ◌++◌, ℕ, zero, suc, ◌<◌, le_of_suc-le-suc, add-one, arith, length, take, drop, get_or}
 use Rattle.records.specs.declared.scanner.Wish.{Wish}
 use Rattle.records.specs.declared.scanner.Wish.TheVariants.{Put, Take, Move}
 use Rattle.kinds.specs.Plain.{Rule, Within, adds, Given, nothing, gives, yields}

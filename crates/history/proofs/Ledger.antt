@@ -1,10 +1,5 @@
 -- The ledger grows with the day: one lemma for each thing that can happen.
-use mathlib.Core.Path.{◌≡◌, refl, sym, ◌∙◌, ap, subst}
-use mathlib.Core.Logic.{◌≢◌, ◌⊎◌, inl, inr}
-use mathlib.Core.Bool.{Bool, true, false}
-use mathlib.Core.List.{List, [], ◌∷◌}
-use Prim.Native.Nat.{ℕ, ◌+◌, ◌<◌, ◌≤◌}
-use native.Mathlib.Omega.{arith}
+use Rattle.std.proofs.Common.{◌≡◌, refl, sym, ◌∙◌, ap, subst, ◌≢◌, ◌⊎◌, inl, inr, Bool, true, false, List, [], ◌∷◌, ℕ, ◌+◌, ◌<◌, ◌≤◌, arith}
 use native.Mathlib.Decide.{ℕ_discrete}
 use Rattle.records.specs.declared.scanner.Wish.{Wish}
 use Rattle.records.specs.declared.scanner.Wish.TheVariants.{Put, Take, Move}

@@ -1,7 +1,5 @@
 -- How far a scanner's request is, as far as the ledger has to know.
-use mathlib.Core.Path.{◌≡◌}
-use mathlib.Core.Bool.{Bool}
-use Prim.Native.Nat.{ℕ}
+use Rattle.std.proofs.Common.{◌≡◌, Bool, ℕ}
 use Rattle.records.specs.declared.scanner.Wish.{Wish}
 
 pub data Stand : Type 0 where

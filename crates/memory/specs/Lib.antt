@@ -4,3 +4,4 @@ pub mod Addresses
 pub mod Reads
 pub mod Meaning
 pub mod Writes
+pub mod Lent

@@ -3,6 +3,7 @@
 
 pub mod address;
 pub mod meaning;
+pub mod memory_mut;
 pub mod reads;
 pub mod taken;
 pub mod view;

@@ -1,6 +1,5 @@
 -- What the system does keeps it valid.
-use Rattle.std.specs.Prelude.{None, Option, Some}
-use Rattle.std.proofs.Common.{◌≡◌, ℕ, ◌+◌, ◌-◌, ◌≤◌, Bool, ◌≢◌, length, Ok, sym, refl, ap, ◌∙◌, subst, arith, length-set}
+use Rattle.std.proofs.Common.{None, Option, Some, ◌≡◌, ℕ, ◌+◌, ◌-◌, ◌≤◌, Bool, ◌≢◌, length, Ok, sym, refl, ap, ◌∙◌, subst, arith, length-set}
 use native.Mathlib.Decide.{ℕ_discrete}
 use Rattle.words.specs.Words.{told}
 use Rattle.records.specs.declared.entries.Node.{Node}

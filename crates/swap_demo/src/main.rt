@@ -2,7 +2,7 @@
 #![tactic(auto)]
 
 use anyhow::bail;
-use memory::view::Memory;
+use memory::memory_mut::MemoryMut;
 use records::entries::{Descriptor, Node, Swap};
 use swap_access::position::{End, Met, Next, Position};
 use swap_step::step_once::step;
@@ -23,8 +23,8 @@ const MOVE: Descriptor = Descriptor {
 };
 
 // What the word at an address stands for.
-fn stands_for(words: &[u32], nodes: &[Node], descriptors: &[Descriptor], address: u32) -> u32 {
-    let memory = Memory::new(words, nodes, 1, descriptors, 1);
+fn stands_for(memory: &MemoryMut<'_>, address: u32) -> u32 {
+    let memory = memory.read();
     let meant = memory
         .word_at(address)
         .and_then(|word| memory.stands_for(word));
@@ -34,21 +34,19 @@ fn stands_for(words: &[u32], nodes: &[Node], descriptors: &[Descriptor], address
 // At most so many steps of a scanner, each with its line; where it stands then, or none after its end.
 fn steps(
     rt: &HostRuntime,
-    words: &mut [u32],
-    nodes: &mut [Node],
-    descriptors: &mut [Descriptor],
+    memory: &mut MemoryMut<'_>,
     scanner: u32,
     from: Position,
     most: u32,
 ) -> anyhow::Result<Option<Position>> {
     let mut at = from;
     for _ in 0..most {
-        let next = match step(words, nodes, 1, descriptors, 1, scanner, at) {
+        let next = match step(memory, scanner, at) {
             Ok(next) => next,
             Err(refusal) => bail!("refused with {refusal}"),
         };
-        let first = stands_for(words, nodes, descriptors, 0);
-        let second = stands_for(words, nodes, descriptors, 2);
+        let first = stands_for(memory, 0);
+        let second = stands_for(memory, 2);
         println!(rt; "scanner {scanner}: {at}: 0 stands for {first}, 2 stands for {second}")?;
         match next {
             Next::At(position) => at = position,
@@ -64,22 +62,27 @@ fn steps(
 fn run(rt: &HostRuntime) -> anyhow::Result<()> {
     let mut words = [0; 64];
     words[0] = 1;
-    let mut nodes = [Node {
-        next: 0,
-        parcel: 77,
-    }; 1];
-    let mut descriptors = [MOVE];
+    let mut memory = MemoryMut {
+        words: &mut words,
+        nodes: &mut [Node {
+            next: 0,
+            parcel: 77,
+        }],
+        nodes_taken: 1,
+        descriptors: &mut [MOVE],
+        descriptors_taken: 1,
+    };
     let begin = Position::Publish { descriptor: 1 };
-    let half = steps(rt, &mut words, &mut nodes, &mut descriptors, 0, begin, 2)?;
+    let half = steps(rt, &mut memory, 0, begin, 2)?;
     println!(rt; "scanner 1 meets the descriptor at address 0 and helps")?;
     let help = Position::ReadResult {
         descriptor: 1,
         met: Met::Descriptor,
     };
-    steps(rt, &mut words, &mut nodes, &mut descriptors, 1, help, 10)?;
+    steps(rt, &mut memory, 1, help, 10)?;
     if let Some(at) = half {
         println!(rt; "scanner 0 goes on")?;
-        steps(rt, &mut words, &mut nodes, &mut descriptors, 0, at, 10)?;
+        steps(rt, &mut memory, 0, at, 10)?;
     }
     Ok(())
 }

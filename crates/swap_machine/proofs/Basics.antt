@@ -1,9 +1,5 @@
 -- Updates, and what a later result keeps.
-use mathlib.Core.Path.{◌≡◌, refl, sym, subst}
-use mathlib.Core.Bool.{Bool}
-use mathlib.Core.Logic.{◌≢◌}
-use Prim.Native.Nat.{ℕ}
-use native.Mathlib.Omega.{arith}
+use Rattle.std.proofs.Common.{◌≡◌, refl, sym, subst, Bool, ◌≢◌, ℕ, arith}
 use native.Mathlib.Decide.{ℕ_discrete}
 use Rattle.swap_machine.specs.Update.{update}
 use Rattle.swap_machine.specs.Machine.{Outcome, undecided, Event, Closed, Ended}

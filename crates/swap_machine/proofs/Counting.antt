@@ -1,9 +1,5 @@
 -- Runs: the invariant holds all along, and the number of decisions of a descriptor follows its result.
-use mathlib.Core.Path.{◌≡◌, refl, sym, ◌∙◌, ap, subst}
-use mathlib.Core.List.{List}
-use Prim.Native.Nat.{ℕ, ◌+◌}
-use native.Mathlib.Nat.{zero-add}
-use native.Mathlib.Omega.{arith}
+use Rattle.std.proofs.Common.{◌≡◌, refl, sym, ◌∙◌, ap, subst, List, ℕ, ◌+◌, zero-add, arith}
 use native.Mathlib.Decide.{ℕ_discrete}
 use Rattle.swap_machine.specs.Machine.{Outcome, Memory, State, Event, silent, swapped, decided, first_failed, answers, Closed}
 use Rattle.swap_machine.specs.Meaning.{taken, Says}

@@ -1,9 +1,5 @@
 -- What a step leaves of the descriptors: their fields and owners, and whether they are published.
-use mathlib.Core.Path.{◌≡◌, refl, sym, ◌∙◌, ap, subst}
-use mathlib.Core.Bool.{true, false}
-use mathlib.Core.Logic.{◌≢◌, ◌⊎◌, inl, inr}
-use Prim.Native.Nat.{ℕ}
-use native.Mathlib.Omega.{arith}
+use Rattle.std.proofs.Common.{◌≡◌, refl, sym, ◌∙◌, ap, subst, true, false, ◌≢◌, ◌⊎◌, inl, inr, ℕ, arith}
 use native.Mathlib.Decide.{ℕ_discrete}
 use Rattle.swap_machine.specs.Update.{update}
 use Rattle.swap_machine.specs.Machine.{Word, Outcome, fresh, failed, won, success, Fields, scanner, Memory, Position, idle, at_publish, Event, Ended, prepare, Cas, hit, miss, Act}

@@ -1,8 +1,5 @@
 -- What each kind of write leaves to the others.
-use mathlib.Core.Path.{◌≡◌, refl, sym, subst}
-use mathlib.Core.Logic.{◌≢◌}
-use Prim.Native.Nat.{ℕ}
-use native.Mathlib.Omega.{arith}
+use Rattle.std.proofs.Common.{◌≡◌, refl, sym, subst, ◌≢◌, ℕ, arith}
 use Rattle.swap_machine.specs.Update.{update}
 use Rattle.swap_machine.specs.Machine.{Word, plain, descriptor, mark, Outcome, fresh, undecided, Fields, scanner, Memory, Position, at_publish, State, Event, write, set_result, prepare, publish, Takes}
 use Rattle.swap_machine.specs.Positions.{AboutToPlace}

@@ -1,10 +1,5 @@
 -- What is known of a descriptor that is not published, of one that is undecided, and once an own run or a help has ended.
-use mathlib.Core.Path.{◌≡◌, refl, sym, ◌∙◌, ap, subst}
-use mathlib.Core.Bool.{Bool, true, false}
-use mathlib.Core.Logic.{◌≢◌}
-use mathlib.Core.List.{List}
-use Prim.Native.Nat.{ℕ}
-use native.Mathlib.Omega.{arith}
+use Rattle.std.proofs.Common.{◌≡◌, refl, sym, ◌∙◌, ap, subst, Bool, true, false, ◌≢◌, List, ℕ, arith}
 use Rattle.swap_machine.specs.Machine.{Outcome, fresh, undecided, failed, success, Owner, nobody, scanner, Memory, State, Event, first_failed, answers, Step, act, Closed, Ended}
 use Rattle.swap_machine.specs.Machine.{Position, at_publish}
 use Rattle.swap_machine.specs.Positions.{Of, Deciding}

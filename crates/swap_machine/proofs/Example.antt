@@ -1,10 +1,5 @@
 -- The two runs, step by step.
-use mathlib.Core.Path.{refl}
-use mathlib.Core.Bool.{true, false}
-use mathlib.Core.List.{[]}
-use Prim.Native.Nat.{ℕ}
-use native.Mathlib.Omega.{arith}
-use mathlib.Core.Logic.{◌≢◌}
+use Rattle.std.proofs.Common.{refl, true, false, [], ℕ, arith, ◌≢◌}
 use Rattle.swap_machine.specs.Update.{update}
 use Rattle.swap_machine.specs.Machine.{plain, mark, fresh, won, nobody, Memory, via_mark, State, prepare, publish, write, set_result}
 use Rattle.swap_machine.specs.Machine.{Position, idle, at_publish, at_read_result, at_place_mark, at_re_read, at_decide, at_finish_first}

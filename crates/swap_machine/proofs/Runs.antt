@@ -1,9 +1,5 @@
 -- The course of a run, step by step: an own run stays one, a help stays a help, and how each ends.
-use mathlib.Core.Path.{◌≡◌, refl, ap}
-use mathlib.Core.Bool.{Bool, true, false}
-use mathlib.Core.Logic.{◌≢◌, ◌⊎◌, inl, inr}
-use Prim.Native.Nat.{ℕ}
-use native.Mathlib.Omega.{arith}
+use Rattle.std.proofs.Common.{◌≡◌, refl, ap, Bool, true, false, ◌≢◌, ◌⊎◌, inl, inr, ℕ, arith}
 use Rattle.swap_machine.specs.Machine.{Memory, Position, idle, at_publish, Event, swapped, first_failed, answers, Act}
 use Rattle.swap_machine.specs.Machine.{swap, start, meet_descriptor, meet_mark, publish_hit, publish_miss, read_open, read_closed, clean_descriptor, clean_mark, place_hit, place_miss, re_read_mark, re_read_other, fail_undecided, fail_failed, fail_won, fail_success, give_back_go, decide_wins, decide_won, decide_late, decide_ended, finish_first_go, finish_second_go, write_success_go, withdraw_go}
 use Rattle.swap_machine.specs.Positions.{Of, Own, Helping, Deciding}

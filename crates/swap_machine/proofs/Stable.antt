@@ -1,9 +1,5 @@
 -- What a scanner knows still holds after a step of another: all that such a step does is a `Rely`.
-use mathlib.Core.Path.{◌≡◌, refl}
-use mathlib.Core.Bool.{false}
-use mathlib.Core.Logic.{◌≢◌}
-use Prim.Native.Nat.{ℕ}
-use native.Mathlib.Omega.{arith}
+use Rattle.std.proofs.Common.{◌≡◌, refl, false, ◌≢◌, ℕ, arith}
 use Rattle.swap_machine.specs.Update.{update}
 use Rattle.swap_machine.specs.Machine.{descriptor, mark, Outcome, undecided, Memory, Position, idle, at_publish, at_read_result, at_clean, at_place_mark, at_re_read, at_try_fail, at_give_back, at_decide, at_finish_first, at_finish_second, at_write_success, at_withdraw, State, Event}
 use Rattle.swap_machine.specs.Positions.{AboutToPlace, FinishingFor}

@@ -1,9 +1,5 @@
 -- Each step keeps the invariant, and does what the theorem says of a step.
-use mathlib.Core.Path.{◌≡◌, refl, sym, subst}
-use mathlib.Core.Bool.{Bool}
-use mathlib.Core.Logic.{◌≢◌, inl, inr}
-use Prim.Native.Nat.{ℕ}
-use native.Mathlib.Omega.{arith}
+use Rattle.std.proofs.Common.{◌≡◌, refl, sym, subst, Bool, ◌≢◌, inl, inr, ℕ, arith}
 use Rattle.swap_machine.specs.Machine.{Outcome, fresh, Memory, Position, at_publish, State, Event, decided, answers, Ended, Act, Step, wait, act}
 use Rattle.swap_machine.specs.Positions.{AboutToPlace}
 use Rattle.swap_machine.specs.Meaning.{taken}

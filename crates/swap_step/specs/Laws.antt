@@ -6,6 +6,7 @@ use Rattle.records.specs.declared.entries.Descriptor.{Descriptor}
 use Rattle.records.specs.Tables.{zero_node, zero_descriptor}
 use Rattle.memory.specs.Reads.{word_at}
 use Rattle.memory.specs.Writes.{shared}
+use Rattle.memory.specs.declared.memory_mut.MemoryMut.{MemoryMut}
 use Rattle.swap_access.specs.declared.effect.Write.{Write}
 use Rattle.swap_access.specs.declared.effect.Write.TheVariants.{Word, Result as ResultOf}
 
@@ -17,6 +18,9 @@ pub record Held : Type 0 where
 
 abbrev pub held : List ℕ → List Node → List Descriptor → Held
 held words nodes descriptors = record { words = words; nodes = nodes; descriptors = descriptors }
+
+abbrev pub held_by : MemoryMut → Held
+held_by m = held m.words.now m.nodes.now m.descriptors.now
 
 -- the word at an address, of a node that is taken or not
 abbrev pub word_of : Held → ℕ → Result ℕ Refusal

@@ -1,32 +1,34 @@
 // The one write of an access.
 ghost use Rattle.std.specs.Prelude.{◌≡◌};
+ghost use Rattle.memory.specs.Lent.{SameTables};
 ghost use Rattle.swap_step.specs.Writes.{words_after, nodes_after, descriptors_after, results_with};
-ghost use Rattle.swap_step.specs.Laws.{held, Only};
+ghost use Rattle.swap_step.specs.Laws.{held_by, Only};
 
+use memory::memory_mut::MemoryMut;
 use memory::writes::write_word;
-use records::entries::{Descriptor, Node};
+use records::entries::Descriptor;
 use swap_access::effect::Write;
 use words::told::LAST_PLACE;
 
 // Writes what an access writes; what stands in no table changes nothing.
-pub fn apply(
-    write: Option<Write>,
-    words: &mut [u32],
-    nodes: &mut [Node],
-    descriptors: &mut [Descriptor],
-)
-    ensures words { words.new ≡ words_after write words.old }
-    ensures nodes { nodes.new ≡ nodes_after write nodes.old }
-    ensures descriptors { descriptors.new ≡ descriptors_after write descriptors.old }
-    ensures law { Only write (held words.old nodes.old descriptors.old) (held words.new nodes.new descriptors.new) }
+pub fn apply(write: Option<Write>, memory: &mut MemoryMut<'_>)
+    ensures words { memory.new.words.now ≡ words_after write memory.old.words.now }
+    ensures nodes { memory.new.nodes.now ≡ nodes_after write memory.old.nodes.now }
+    ensures nodes_taken { memory.new.nodes_taken ≡ memory.old.nodes_taken }
+    ensures descriptors { memory.new.descriptors.now ≡ descriptors_after write memory.old.descriptors.now }
+    ensures descriptors_taken { memory.new.descriptors_taken ≡ memory.old.descriptors_taken }
+    ensures same { SameTables memory.old memory.new }
+    ensures law { Only write (held_by memory.old) (held_by memory.new) }
 {
     match write {
         None => {}
         Some(Write::Word { address, word }) => {
             // which places are taken was checked where the access was found
-            let _ = write_word(words, nodes, LAST_PLACE, address, word);
+            let _ = write_word(memory.words, memory.nodes, LAST_PLACE, address, word);
         }
-        Some(Write::Result { descriptor, result }) => write_result(descriptors, descriptor, result),
+        Some(Write::Result { descriptor, result }) => {
+            write_result(memory.descriptors, descriptor, result);
+        }
     }
 }
 

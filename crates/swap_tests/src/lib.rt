@@ -3,7 +3,7 @@
 // Every schedule of two scanners, one with a two-word swap of its own and one that helps.
 #[cfg(test)]
 mod tests {
-    use memory::view::Memory;
+    use memory::memory_mut::MemoryMut;
     use records::entries::{Descriptor, Node, Swap};
     use refusals::refusal::Refusal;
     use std::process::Abort;
@@ -28,13 +28,8 @@ mod tests {
     };
 
     // What the word at an address stands for.
-    fn stands_for(
-        words: &[u32],
-        nodes: &[Node],
-        descriptors: &[Descriptor],
-        address: u32,
-    ) -> Result<u32, Refusal> {
-        let memory = Memory::new(words, nodes, 2, descriptors, 1);
+    fn stands_for(memory: &MemoryMut<'_>, address: u32) -> Result<u32, Refusal> {
+        let memory = memory.read();
         memory.stands_for(memory.word_at(address)?)
     }
 
@@ -61,19 +56,22 @@ mod tests {
 
     // One step of a scanner that stands somewhere, and where it stands then.
     fn advance(
-        words: &mut [u32],
-        nodes: &mut [Node],
-        descriptors: &mut [Descriptor],
+        memory: &mut MemoryMut<'_>,
         scanner: u32,
         at: Option<Position>,
     ) -> Result<Option<Position>, Refusal> {
         let Some(position) = at else {
             return Ok(None);
         };
-        match step(words, nodes, 2, descriptors, 1, scanner, position)? {
+        match step(memory, scanner, position)? {
             Next::At(next) => Ok(Some(next)),
             Next::Ended(_) => Ok(None),
         }
+    }
+
+    // The result of the one descriptor.
+    fn outcome(memory: &MemoryMut<'_>) -> u32 {
+        memory.descriptors.first().copied().unwrap_or(MOVE).result
     }
 
     // Plays a schedule: bit k of it says which scanner makes step k. The helper reads address 0 and 2 in turn while it rests.
@@ -81,30 +79,33 @@ mod tests {
     // becomes a mark.
     fn play(
         rt: &impl Abort,
-        words: &mut [u32],
-        nodes: &mut [Node],
-        descriptors: &mut [Descriptor],
+        before: [u32; 4],
         schedule: u32,
         old: (u32, u32),
         new: (u32, u32),
     ) -> Result<(), Fail> {
+        let mut words = before;
+        let mut memory = MemoryMut {
+            words: &mut words,
+            nodes: &mut [Node::ZERO; 2],
+            nodes_taken: 2,
+            descriptors: &mut [MOVE],
+            descriptors_taken: 1,
+        };
         let mut owner = Some(Position::Publish { descriptor: 1 });
         let mut helper = None;
         let mut now = old;
         for turn in 0..10u32 {
-            let before = descriptors.first().copied().unwrap_or(MOVE).result;
+            let before = outcome(&memory);
             if (schedule >> turn) % 2 == 0 {
-                owner = advance(words, nodes, descriptors, 0, owner)?;
+                owner = advance(&mut memory, 0, owner)?;
             } else if helper.is_none() {
-                helper = meets(words, 2 * (turn as usize % 2));
+                helper = meets(memory.words, 2 * (turn as usize % 2));
             } else {
-                helper = advance(words, nodes, descriptors, 1, helper)?;
+                helper = advance(&mut memory, 1, helper)?;
             }
-            let after = descriptors.first().copied().unwrap_or(MOVE).result;
-            let pair = (
-                stands_for(words, nodes, descriptors, 0)?,
-                stands_for(words, nodes, descriptors, 2)?,
-            );
+            let after = outcome(&memory);
+            let pair = (stands_for(&memory, 0)?, stands_for(&memory, 2)?);
             if pair != now {
                 assert!(rt; now == old && pair == new && before == 1 && after > 3);
                 now = pair;
@@ -117,29 +118,8 @@ mod tests {
     #[test]
     fn every_schedule_keeps_both_words_together(rt: HostRuntime) -> Result<(), Fail> {
         for schedule in 0..1024u32 {
-            let mut nodes = [Node::ZERO; 2];
-            let mut words = [1, 0, 0, 0];
-            let mut descriptors = [MOVE];
-            play(
-                &rt,
-                &mut words,
-                &mut nodes,
-                &mut descriptors,
-                schedule,
-                (1, 0),
-                (0, 1),
-            )?;
-            let mut others = [1, 0, 2, 0];
-            let mut undone = [MOVE];
-            play(
-                &rt,
-                &mut others,
-                &mut nodes,
-                &mut undone,
-                schedule,
-                (1, 2),
-                (1, 2),
-            )?;
+            play(&rt, [1, 0, 0, 0], schedule, (1, 0), (0, 1))?;
+            play(&rt, [1, 0, 2, 0], schedule, (1, 2), (1, 2))?;
         }
         Ok(())
     }
