@@ -7,7 +7,7 @@ use crate::digits::{digit_count, write_digits};
 use crate::printed::Printed;
 use refusals::refusal::Refusal;
 
-// The numbers of a line, of which there is at least one.
+// The numbers of a line. There is at least one.
 #[derive(Clone, Copy, PartialEq, Eq, Debug)]
 pub struct Line<'a> {
     first: u32,
@@ -15,6 +15,7 @@ pub struct Line<'a> {
 }
 
 impl<'a> Line<'a> {
+    // The line of these numbers.
     pub fn new(first: u32, rest: &'a [u32]) -> Line<'a>
         ensures { bytes_of result ≡ line_of first rest.now }
     {
@@ -22,6 +23,7 @@ impl<'a> Line<'a> {
     }
 
     // The room that the line leaves, if it fits. It takes each number off the room, so that no sum of lengths can wrap.
+    // A loop is plainer here than `try_fold`, which tells of its outcome by the calls of its closure alone.
     fn room_behind(&self, room: usize) -> Option<usize>
         ensures { SomeIff result (length (bytes_of self.now) ≤ room) (room - length (bytes_of self.now)) }
     {
