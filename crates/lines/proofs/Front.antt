@@ -1,13 +1,19 @@
 -- Bytes written at the front of an output, behind those that stand there.
-use Rattle.std.proofs.Common.{◌≡◌, ℕ, ◌+◌, ◌-◌, ◌<◌, List, [], ◌∷◌, ◌++◌, length, get_or, take, drop, set, sym, refl, ap, ◌∙◌, append_assoc, append-nil, arith, length-append, length-drop}
+use Rattle.std.proofs.Common.{◌≡◌, ℕ, ◌+◌, ◌-◌, ◌<◌, List, [], ◌∷◌, ◌++◌, length, get_or, take, drop, set, sym, refl, ap, ◌∙◌, append_assoc, append-nil, zero-add, arith, length-append, length-drop}
 use borrow.Rule.Slice.PartMut.{put_mid}
 use Rattle.std.proofs.Math.Seq.{set-append_seam}
 use Rattle.std.proofs.lemmas.List.{take_at, drop_at, drop_more, drop_all, drop-drop, take_rest, length_push}
-use Rattle.lines.specs.Places.{front_placed}
+use Rattle.lines.specs.Places.{placed}
 
-module _ (out x now : List ℕ) (end : ℕ) (is : now ≡ front_placed out x) (at_end : end ≡ length x) where
+in_front : (out x : List ℕ) → placed out 0 x ≡ x ++ drop (length x) out
+in_front out x = ap (λ n. x ++ drop n out) (zero-add (length x))
+
+module _ (out x now : List ℕ) (end : ℕ) (wrote : now ≡ placed out 0 x) (at_end : end ≡ length x) where
+  is : now ≡ x ++ drop (length x) out
+  is = wrote ∙ in_front out x
+
   -- one byte
-  pub pushed : (b : ℕ) → end < length out → set now end b ≡ front_placed out (x ++ (b ∷ []))
+  pub pushed : (b : ℕ) → end < length out → set now end b ≡ placed out 0 (x ++ (b ∷ []))
   pushed b h =
       let rest : drop (length x) out ≡ get_or out (length x) 0 ∷ drop (length x + 1) out = drop_more out (length x) 0 (omega arith) in
       (λ j. set (is j) (at_end j) b)
@@ -15,9 +21,10 @@ module _ (out x now : List ℕ) (end : ℕ) (is : now ≡ front_placed out x) (a
       ∙ set-append_seam x (get_or out (length x) 0) (drop (length x + 1) out) b
       ∙ sym (append_assoc x (b ∷ []) (drop (length x + 1) out))
       ∙ ap (λ n. (x ++ (b ∷ [])) ++ drop n out) (sym (length_push x b))
+      ∙ sym (in_front out (x ++ (b ∷ [])))
 
   -- bytes, written at the front of `&mut now[end..]`
-  pub added : (y last : List ℕ) → last ≡ front_placed (take (length now - end) (drop end now)) y → put_mid end (length now - end) now last ≡ front_placed out (x ++ y)
+  pub added : (y last : List ℕ) → last ≡ placed (take (length now - end) (drop end now)) 0 y → put_mid end (length now - end) now last ≡ placed out 0 (x ++ y)
   added y last e =
       let room : List ℕ = drop (length x) out in
       let long : length now ≡ length x + length room = ap length is ∙ length-append x room in
@@ -26,7 +33,8 @@ module _ (out x now : List ℕ) (end : ℕ) (is : now ≡ front_placed out x) (a
       let lent : take (length now - end) (drop end now) ≡ room = take_rest now end ∙ past in
       let none : drop (length now - end) (drop end now) ≡ [] = drop_all _ (drop end now) (simp length-drop (omega arith)) in
       (λ j. before j ++ (e j ++ none j))
-      ∙ ap (λ l. x ++ l) (append-nil (front_placed (take (length now - end) (drop end now)) y) ∙ ap (λ l. front_placed l y) lent)
+      ∙ ap (λ l. x ++ l) (append-nil (placed (take (length now - end) (drop end now)) 0 y) ∙ ap (λ l. placed l 0 y) lent ∙ in_front room y)
       ∙ ap (λ l. x ++ (y ++ l)) (drop-drop (length y) (length x) out)
       ∙ sym (append_assoc x y (drop (length x + length y) out))
       ∙ ap (λ n. (x ++ y) ++ drop n out) (sym (length-append x y))
+      ∙ sym (in_front out (x ++ y))

@@ -1,6 +1,6 @@
 // A number's decimal digits.
 ghost use Rattle.std.specs.Prelude.{◌≡◌, ◌≤◌, length, decimal};
-ghost use Rattle.lines.specs.Places.{front_placed};
+ghost use Rattle.lines.specs.Places.{placed};
 
 // How many digits the number has.
 pub(crate) fn digit_count(n: u32) -> usize
@@ -15,7 +15,7 @@ pub(crate) fn digit_count(n: u32) -> usize
 pub(crate) fn write_digits(out: &mut [u8], n: u32) -> usize
     requires { length (decimal n) ≤ length out.old }
     ensures answer { result ≡ length (decimal n) }
-    ensures after { out.new ≡ front_placed out.old (decimal n) }
+    ensures after { out.new ≡ placed out.old 0 (decimal n) }
 {
     let before = if n < 10 { 0 } else { write_digits(out, n / 10) };
     out[before] = b'0' + (n % 10) as u8;

@@ -1,7 +1,7 @@
 // A printed line.
 ghost use Rattle.std.specs.Prelude.{◌≡◌, ◌-◌, ◌≤◌, length, SomeIff};
 ghost use Rattle.lines.specs.Lines.{line_of, bytes_of};
-ghost use Rattle.lines.specs.Places.{front_placed};
+ghost use Rattle.lines.specs.Places.{placed};
 
 use crate::digits::{digit_count, write_digits};
 use crate::printed::Printed;
@@ -38,7 +38,7 @@ impl<'a> Line<'a> {
     fn write(&self, out: &mut [u8]) -> usize
         requires { length (bytes_of self.now) ≤ length out.old }
         ensures answer { result ≡ length (bytes_of self.now) }
-        ensures after { out.new ≡ front_placed out.old (bytes_of self.now) }
+        ensures after { out.new ≡ placed out.old 0 (bytes_of self.now) }
     {
         let mut end = write_digits(out, self.first);
         for n in self.rest {

@@ -4,7 +4,7 @@ ghost use Rattle.orders.specs.Numbers.{with_rest, with_digit, digits_of, number_
 
 use refusals::refusal::Refusal;
 
-// The value with one more digit, if that fits 32 bits.
+// The value with one more digit, if that fits 32 bits. A byte below the digits counts as 0, so nothing is asked of the caller.
 fn add_digit(value: u32, digit: u8) -> Result<u32, Refusal>
     ensures { result ≡ with_digit value digit }
 {

@@ -3,7 +3,7 @@ use Rattle.std.specs.List.{flat_map}
 use Rattle.std.proofs.lemmas.Grind.{common_steps}
 use Rattle.std.proofs.lemmas.List.{take_all}
 use Rattle.lines.specs.Lines.{word_of}
-use Rattle.lines.specs.Places.{front_placed}
+use Rattle.lines.specs.Places.{placed}
 use Rattle.lines.proofs.Front.{pushed}
 use Rattle.lines.proofs.Words.{word_ends, word_written}
 use Rattle.lines.proofs.line.Line.write.Goals as goal
@@ -25,5 +25,5 @@ returns-clause-after c =
     let head = decimal line.first in
     let all = ap (λ l. head ++ flat_map word_of l) (take_all c.loop-n.n-index line.rest.now c.loop-n-test.false) in
     pushed c.args.out.now _ c.loop-n.out c.loop-n.end c.loop-n.invariant.out c.loop-n.invariant.end 10 (omega arith)
-    ∙ ap (λ l. front_placed c.args.out.now (l ++ (10 ∷ []))) all
-    ∙ ap (front_placed c.args.out.now) (append_assoc head (flat_map word_of line.rest.now) (10 ∷ []))
+    ∙ ap (λ l. placed c.args.out.now 0 (l ++ (10 ∷ []))) all
+    ∙ ap (placed c.args.out.now 0) (append_assoc head (flat_map word_of line.rest.now) (10 ∷ []))
