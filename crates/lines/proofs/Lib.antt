@@ -1,3 +1,4 @@
-pub mod Lengths
-pub mod Pasted
-pub mod Rest
+pub mod Front
+pub mod LastDigit
+pub mod Powers
+pub mod Words

@@ -17,16 +17,3 @@ end_at out at bytes = cond (fits_at out at bytes) (Ok (at + length bytes)) (Err 
 -- what the output then holds
 abbrev pub written_at : List ℕ → ℕ → List ℕ → List ℕ
 written_at out at bytes = cond (fits_at out at bytes) (placed out at bytes) out
-
--- the same at the front of an output
-abbrev pub front_fits : List ℕ → List ℕ → Bool
-front_fits out bytes = nat_le (length bytes) (length out)
-
-abbrev pub front_placed : List ℕ → List ℕ → List ℕ
-front_placed out bytes = bytes ++ drop (length bytes) out
-
-abbrev pub front_end : List ℕ → List ℕ → Result ℕ Refusal
-front_end out bytes = cond (front_fits out bytes) (Ok (length bytes)) (Err OutputFull)
-
-abbrev pub front_written : List ℕ → List ℕ → List ℕ
-front_written out bytes = cond (front_fits out bytes) (front_placed out bytes) out

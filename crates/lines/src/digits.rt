@@ -1,28 +1,23 @@
 // A number's decimal digits.
-ghost use Rattle.std.specs.Prelude.{◌≡◌, ◌≤◌, length, take, decimal};
+ghost use Rattle.std.specs.Prelude.{◌≡◌, ◌≤◌, length, decimal};
+ghost use Rattle.lines.specs.Places.{placed};
 
-// The first `len` of the bytes. A number of 32 bits has at most ten digits.
-#[derive(Clone, Copy)]
-pub(crate) struct Digits {
-    pub(crate) bytes: [u8; 10],
-    pub(crate) len: usize,
+// How many digits the number has.
+pub(crate) fn digit_count(n: u32) -> usize
+    ensures value { result ≡ length (decimal n) }
+    ensures bound { result ≤ 10 }
+{
+    n.checked_ilog10().unwrap_or(0) as usize + 1
 }
 
+// Writes the digits at the front of the output, and answers how many they are.
 // The last digit is put behind those of the number without it.
-pub(crate) fn digits_of(n: u32) -> Digits
-    ensures digits { take result.len result.bytes ≡ decimal n }
-    ensures bound { result.len ≤ 10 }
-    ensures long { result.len ≡ length (decimal n) }
+pub(crate) fn write_digits(out: &mut [u8], n: u32) -> usize
+    requires { length (decimal n) ≤ length out.old }
+    ensures answer { result ≡ length (decimal n) }
+    ensures after { out.new ≡ placed out.old 0 (decimal n) }
 {
-    let digit = b'0' + (n % 10) as u8;
-    if n < 10 {
-        return Digits {
-            bytes: [digit, 0, 0, 0, 0, 0, 0, 0, 0, 0],
-            len: 1,
-        };
-    }
-    let mut digits = digits_of(n / 10);
-    digits.bytes[digits.len] = digit;
-    digits.len += 1;
-    digits
+    let before = if n < 10 { 0 } else { write_digits(out, n / 10) };
+    out[before] = b'0' + (n % 10) as u8;
+    before + 1
 }

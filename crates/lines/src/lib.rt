@@ -1,12 +1,14 @@
-// Printed lines, written into what is left of a lent output.
+// Printed texts and lines, written into what is left of a lent output.
 #![tactic(auto)]
 
 mod digits;
-mod front;
-mod measure;
+mod line;
 mod output;
+mod printed;
 #[cfg(test)]
 mod tests;
-mod write;
+mod text;
 
-pub use output::{put_line, put_text};
+pub use line::Line;
+pub use output::put;
+pub use printed::Printed;

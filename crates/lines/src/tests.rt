@@ -1,13 +1,13 @@
-use crate::{put_line, put_text};
+use crate::{Line, put};
 use refusals::refusal::*;
 use std::test::Fail;
 
 #[test]
 fn lines_follow_one_another(rt: HostRuntime) -> Result<(), Fail> {
     let mut out = [b'.'; 32];
-    let heading = put_text(&mut out, 0, b"board\n")?;
-    let one = put_line(&mut out, heading, 7, &[])?;
-    let two = put_line(&mut out, one, 0, &[10, 4294967295])?;
+    let heading = put(&mut out, 0, b"board\n".as_slice())?;
+    let one = put(&mut out, heading, Line::new(7, &[]))?;
+    let two = put(&mut out, one, Line::new(0, &[10, 4294967295]))?;
     assert_eq!(rt; two, 24);
     assert!(rt; out == *b"board\n7\n0 10 4294967295\n........");
     Ok(())
@@ -16,10 +16,16 @@ fn lines_follow_one_another(rt: HostRuntime) -> Result<(), Fail> {
 #[test]
 fn a_line_is_written_whole_or_not_at_all(rt: HostRuntime) {
     let mut out = [b'.'; 6];
-    assert_eq!(rt; put_line(&mut out, 1, 12, &[34]), Err(Refusal::OutputFull));
-    assert_eq!(rt; put_line(&mut out, 7, 1, &[]), Err(Refusal::OutputFull));
+    assert_eq!(rt;
+        put(&mut out, 1, Line::new(12, &[34])),
+        Err(Refusal::OutputFull)
+    );
+    assert_eq!(rt;
+        put(&mut out, 7, Line::new(1, &[])),
+        Err(Refusal::OutputFull)
+    );
     assert!(rt; out == *b"......");
-    assert_eq!(rt; put_line(&mut out, 0, 12, &[34]), Ok(6));
+    assert_eq!(rt; put(&mut out, 0, Line::new(12, &[34])), Ok(6));
     assert!(rt; out == *b"12 34\n");
-    assert_eq!(rt; put_text(&mut out, 6, b""), Ok(6));
+    assert_eq!(rt; put(&mut out, 6, b"".as_slice()), Ok(6));
 }

@@ -5,7 +5,7 @@ ghost use Rattle.lines.specs.Places.{end_at, written_at};
 ghost use Rattle.obey.specs.Prints.{values};
 
 use crate::phase::Reply;
-use lines::put_line;
+use lines::{Line, put};
 use refusals::refusal::Refusal;
 
 // The order's number, 0 or the refusal's number, and the values of an answer, into what is left of the output from `at` on.
@@ -19,8 +19,8 @@ pub fn print_reply(
     ensures after { out.new ≡ written_at out.old at (line_of order (values reply)) }
 {
     match reply {
-        Ok(Reply::Laid(tray)) => put_line(out, at, order, &[0, tray]),
-        Ok(Reply::Started) => put_line(out, at, order, &[0]),
-        Err(refusal) => put_line(out, at, order, &[u32::from(refusal)]),
+        Ok(Reply::Laid(tray)) => put(out, at, Line::new(order, &[0, tray])),
+        Ok(Reply::Started) => put(out, at, Line::new(order, &[0])),
+        Err(refusal) => put(out, at, Line::new(order, &[u32::from(refusal)])),
     }
 }

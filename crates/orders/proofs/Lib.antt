@@ -1,6 +1,5 @@
 pub mod Counted
 pub mod DigitLaws
-pub mod Digits
 pub mod NumberLaws
 pub mod OrderLaws
 pub mod Wordings

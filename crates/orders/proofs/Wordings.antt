@@ -1,10 +1,10 @@
 -- No text is refused for anything but its wording.
-use Rattle.std.proofs.Common.{◌≡◌, ℕ, zero, suc, ◌+◌, ◌-◌, ◌*◌, ◌^◌, Bool, true, false, cond, ◌&&◌, eqb, ltb, leb, List, [], ◌∷◌, length, get_or, drop, Ok, Err, Result, refl}
+use Rattle.std.proofs.Common.{◌≡◌, ℕ, zero, suc, ◌+◌, ◌-◌, ◌*◌, ◌^◌, Bool, true, false, cond, eqb, ltb, List, [], ◌∷◌, Ok, Err, Result, refl}
 use Rattle.std.specs.Char.{is_ascii_digit}
 use Rattle.refusals.specs.declared.refusal.Refusal.{Refusal}
 use Rattle.refusals.specs.declared.refusal.Refusal.TheVariants.{Wording}
 use Rattle.orders.specs.Answered.{on_ok}
-use Rattle.orders.specs.Numbers.{a_number, with_digit, digits_of, number_of, numbers_of}
+use Rattle.orders.specs.Numbers.{with_digit, digits_of, decimal_of, number_of, numbers_of}
 
 abbrev pub ByWording : {X : Type 0} → Result X Refusal → Type 0
 ByWording (Ok x) = Unit {0}
@@ -21,24 +21,26 @@ of_on_ok (Err e) more p q = p
 of_digit : (v b : ℕ) → ByWording (with_digit v b)
 of_digit v b = of_cond (ltb (v * 10 + (b - 48)) (2 ^ 32)) (Ok (v * 10 + (b - 48))) (Err Wording) tt refl
 
-of_digits : (list : List ℕ) (v at : ℕ) → ByWording (digits_of v at list)
-of_digits [] v at = tt
-of_digits (b ∷ rest) v at =
-    of_cond (is_ascii_digit b) (on_ok (with_digit v b) (λ w. digits_of w (at + 1) rest)) (Ok (a_number v at))
-    (of_on_ok (with_digit v b) (λ w. digits_of w (at + 1) rest) (of_digit v b) (λ w. of_digits rest w (at + 1)))
+of_digits : (list : List ℕ) (v : ℕ) → ByWording (digits_of v list)
+of_digits [] v = tt
+of_digits (b ∷ rest) v =
+    of_cond (is_ascii_digit b) (on_ok (with_digit v b) (λ w. digits_of w rest)) (Ok (v, b ∷ rest))
+    (of_on_ok (with_digit v b) (λ w. digits_of w rest) (of_digit v b) (λ w. of_digits rest w))
     tt
 
-of_number : (text : List ℕ) (from : ℕ) → ByWording (number_of text from)
-of_number text from =
-    let first = get_or text (from + 1) 0 in
-    let digits = digits_of 0 (from + 1) (drop (from + 1) text) in
-    of_cond (leb (from + 2) (length text) && eqb (get_or text from 0) 32) _ (Err Wording)
-    (of_cond (eqb first 48) (Ok (a_number 0 (from + 2))) (cond (is_ascii_digit first) digits (Err Wording)) tt
-    (of_cond (is_ascii_digit first) digits (Err Wording) (of_digits (drop (from + 1) text) 0 (from + 1)) refl))
-    refl
+of_decimal : (text : List ℕ) → ByWording (decimal_of text)
+of_decimal [] = refl
+of_decimal (b ∷ rest) =
+    of_cond (eqb b 48) (Ok (0, rest)) (cond (is_ascii_digit b) (digits_of 0 (b ∷ rest)) (Err Wording)) tt
+    (of_cond (is_ascii_digit b) (digits_of 0 (b ∷ rest)) (Err Wording) (of_digits (b ∷ rest) 0) refl)
 
-pub of_numbers : (k : ℕ) (text : List ℕ) (from : ℕ) → ByWording (numbers_of k text from)
-of_numbers zero text from = of_cond (eqb from (length text)) (Ok []) (Err Wording) tt refl
-of_numbers (suc k) text from =
-    of_on_ok (number_of text from) (λ n. on_ok (numbers_of k text n.end) λ ns. Ok (n.value ∷ ns)) (of_number text from)
-    (λ n. of_on_ok (numbers_of k text n.end) (λ ns. Ok (n.value ∷ ns)) (of_numbers k text n.end) (λ ns. tt))
+of_number : (text : List ℕ) → ByWording (number_of text)
+of_number [] = refl
+of_number (b ∷ rest) = of_cond (eqb b 32) (decimal_of rest) (Err Wording) (of_decimal rest) refl
+
+pub of_numbers : (k : ℕ) (text : List ℕ) → ByWording (numbers_of k text)
+of_numbers zero [] = tt
+of_numbers zero (b ∷ rest) = refl
+of_numbers (suc k) text =
+    of_on_ok (number_of text) (λ n. on_ok (numbers_of k n.1) λ ns. Ok (n.0 ∷ ns)) (of_number text)
+    (λ n. of_on_ok (numbers_of k n.1) (λ ns. Ok (n.0 ∷ ns)) (of_numbers k n.1) (λ ns. tt))

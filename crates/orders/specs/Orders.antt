@@ -9,13 +9,13 @@ use Rattle.orders.specs.Numbers.{numbers_of}
 
 -- by the codes of the letters: R and C take no number, N takes the crew
 abbrev pub by_letter : ℕ → List ℕ → Result Order Refusal
-by_letter letter text =
-    cond (letter == 82) (on_ok (numbers_of 0 text 1) λ _. Ok LayQueue)
-    (cond (letter == 67) (on_ok (numbers_of 0 text 1) λ _. Ok LayStack)
-    (cond (letter == 78) (on_ok (numbers_of 1 text 1) λ ns. Ok (Start (slice_index ns 0)))
+by_letter letter numbers =
+    cond (letter == 82) (on_ok (numbers_of 0 numbers) λ _. Ok LayQueue)
+    (cond (letter == 67) (on_ok (numbers_of 0 numbers) λ _. Ok LayStack)
+    (cond (letter == 78) (on_ok (numbers_of 1 numbers) λ ns. Ok (Start (slice_index ns 0)))
     (Err Wording)))
 
 -- the letter comes first
 abbrev pub order_of : List ℕ → Result Order Refusal
 order_of [] = Err Wording
-order_of (letter ∷ rest) = by_letter letter (letter ∷ rest)
+order_of (letter ∷ numbers) = by_letter letter numbers

@@ -1,77 +1,62 @@
 // The numbers of an order's text.
-ghost use Rattle.std.specs.Prelude.{◌≡◌, ◌<◌, ◌≤◌, length, drop, IfOk};
-ghost use Rattle.orders.specs.Numbers.{with_digit, digits_of, number_of, numbers_of};
+ghost use Rattle.std.specs.Prelude.{◌≡◌};
+ghost use Rattle.orders.specs.Numbers.{with_rest, with_digit, digits_of, number_of, numbers_of};
 
 use refusals::refusal::Refusal;
 
-// A number that was read, and the place in the text where it ends.
-#[derive(Clone, Copy)]
-pub(crate) struct Number {
-    pub(crate) value: u32,
-    pub(crate) end: usize,
-}
-
-// The value with one more digit, if that fits 32 bits.
+// The value with one more digit, if that fits 32 bits. A byte below the digits counts as 0, so nothing is asked of the caller.
 fn add_digit(value: u32, digit: u8) -> Result<u32, Refusal>
-    requires { (48 ≤ digit) × (digit ≤ 57) }
     ensures { result ≡ with_digit value digit }
 {
-    let more = u64::from(value) * 10 + u64::from(digit - b'0');
-    if more < 0x1_0000_0000 {
-        Ok(more as u32)
-    } else {
-        Err(Refusal::Wording)
-    }
+    value
+        .checked_mul(10)
+        .and_then(|tens| tens.checked_add(u32::from(digit.saturating_sub(b'0'))))
+        .ok_or(Refusal::Wording)
 }
 
-// Reads all the digits that stand from `from` on.
-fn read_digits(text: &[u8], from: usize) -> Result<Number, Refusal>
-    requires { from ≤ length text.now }
-    ensures value { result ≡ digits_of 0 from (drop from text.now) }
-    ensures within { IfOk result (λ n. n.end ≤ length text.now) }
+// Reads all the digits at the front of the text, and answers what they come to and the rest of the text.
+fn read_digits(text: &[u8]) -> Result<(u32, &[u8]), Refusal>
+    ensures { with_rest result ≡ digits_of 0 text.now }
 {
     let mut value = 0;
-    let mut end = from;
-    while end < text.len() && text[end].is_ascii_digit() {
-        value = add_digit(value, text[end])?;
-        end += 1;
+    let mut rest = text;
+    while let [digit, after @ ..] = rest
+        && digit.is_ascii_digit()
+    {
+        value = add_digit(value, *digit)?;
+        rest = after;
     }
-    Ok(Number { value, end })
+    Ok((value, rest))
 }
 
-// Reads one space and a decimal with no leading zero, from `from` on.
-pub(crate) fn read_number(text: &[u8], from: usize) -> Result<Number, Refusal>
-    requires { from ≤ length text.now }
-    ensures value { result ≡ number_of text.now from }
-    ensures within { IfOk result (λ n. n.end ≤ length text.now) }
+// Reads one space and a decimal with no leading zero, and answers the number and the rest of the text.
+fn read_number(text: &[u8]) -> Result<(u32, &[u8]), Refusal>
+    ensures { with_rest result ≡ number_of text.now }
 {
-    if text.len() - from < 2 || text[from] != b' ' {
+    let [b' ', digits @ ..] = text else {
         return Err(Refusal::Wording);
-    }
-    match text[from + 1] {
-        b'0' => Ok(Number {
-            value: 0,
-            end: from + 2,
-        }),
-        b'1'..=b'9' => read_digits(text, from + 1),
+    };
+    match digits {
+        [b'0', rest @ ..] => Ok((0, rest)),
+        [b'1'..=b'9', ..] => read_digits(digits),
         _ => Err(Refusal::Wording),
     }
 }
 
-// Reads exactly K numbers from `from` on, with nothing after them.
-pub(crate) fn read_numbers<const K: usize>(text: &[u8], from: usize) -> Result<[u32; K], Refusal>
-    requires { from ≤ length text.now }
-    ensures { result ≡ numbers_of K text.now from }
+// Reads exactly K numbers, with nothing after them.
+pub(crate) fn read_numbers<const K: usize>(text: &[u8]) -> Result<[u32; K], Refusal>
+    ensures { result ≡ numbers_of K text.now }
 {
     let mut numbers = [0; K];
-    let mut at = from;
+    let mut left = text;
     for place in numbers.iter_mut() {
-        let number = read_number(text, at)?;
-        *place = number.value;
-        at = number.end;
+        let (number, rest) = read_number(left)?;
+        *place = number;
+        left = rest;
     }
-    if at != text.len() {
-        return Err(Refusal::Wording);
+    if left.is_empty() {
+        Ok(numbers)
+    } else {
+        Err(Refusal::Wording)
     }
-    Ok(numbers)
 }

@@ -13,7 +13,7 @@ ghost use Rattle.session.specs.Plays.{state, ended, broken, damaged, orders_from
 use crate::fault::{Played, SessionFault};
 use board::board::{Layout, SCANNERS, TRAY_WORDS};
 use index::file::SessionFile;
-use lines::{put_line, put_text};
+use lines::{Line, put};
 use obey::carry_out::carry_out;
 use obey::kinds_used::Kinds;
 use obey::phase::Phase;
@@ -72,7 +72,7 @@ fn print_damage(out: &mut [u8], at: usize, refusal: Refusal) -> Played
     ensures answer { result ≡ damaged (end_at out.old at (line_of 0 (number_of refusal ∷ []))) refusal at }
     ensures after { out.new ≡ written_at out.old at (line_of 0 (number_of refusal ∷ [])) }
 {
-    match put_line(out, at, 0, &[u32::from(refusal)]) {
+    match put(out, at, Line::new(0, &[u32::from(refusal)])) {
         Ok(end) => ended_by(0, refusal, end),
         Err(cause) => ended_by(0, cause, at),
     }
@@ -93,7 +93,7 @@ fn play_on(
         Ok(layout) => layout,
         Err(cause) => return ended_by(0, cause, 0),
     };
-    let at = match put_text(out, 0, b"DAY\n") {
+    let at = match put(out, 0, b"DAY\n".as_slice()) {
         Ok(end) => end,
         Err(cause) => return ended_by(0, cause, 0),
     };

@@ -2,7 +2,7 @@
 use Rattle.std.proofs.Common.{◌≡◌, ◌+◌, length, drop}
 use Rattle.std.specs.List.{flat_map}
 use Rattle.lines.specs.Lines.{word_of, line_of}
-use Rattle.lines.proofs.measure.line_fits.Given as goal
+use Rattle.lines.proofs.line.Line.room_behind.Given as goal
 
 abbrev pub invariant-loop-n : goal.invariant-loop-n
-invariant-loop-n l = l.left + length (line_of l.first l.rest) ≡ l.room + length (flat_map word_of (drop l.n-index l.rest))
+invariant-loop-n l = l.left + length (line_of l.self.first l.self.rest.now) ≡ l.room + length (flat_map word_of (drop l.n-index l.n-items))
