@@ -1,62 +1,44 @@
 // Session files: the index, its check, and the order texts that it names.
-ghost use Rattle.std.specs.Prelude.{◌≡◌, ◌+◌, ◌^◌, ◌<◌, [], length, IfOk, slice_index, slice_index_or};
-ghost use Rattle.index.specs.Index.{number_at, offset_of, end_of, all_lie};
-ghost use Rattle.index.specs.Apart.{Apart};
-ghost use Rattle.index.specs.Texts.{texts};
-ghost use Rattle.index.specs.Opened.{texts_of, said};
+ghost use Rattle.std.specs.Prelude.{◌≡◌, ◌+◌, ◌*◌, ◌<◌, ◌≤◌, [], true, length, IfOk, MatchOption, slice_index_or};
+ghost use Rattle.index.specs.Index.{number_at, count_of, pairs_in, all_lie, sound};
 
 use refusals::refusal::Refusal;
+use std::ops::Range;
 
 // The most bytes that a session file has.
 pub const MOST: usize = 16384;
 
-// The byte at `at`, or 0 past the end.
-fn byte_at(bytes: &[u8], at: usize) -> u8
-    ensures { result ≡ slice_index bytes.now at }
+// Where a text lies, by its pair of the index: the lower byte of each number comes first.
+fn place_of(pair: [u8; 4]) -> Range<usize>
+    ensures start { result.start ≡ number_at pair 0 }
+    ensures end { result.end ≡ number_at pair 0 + number_at pair 2 }
 {
-    if at < bytes.len() { bytes[at] } else { 0 }
+    let start = usize::from(u16::from_le_bytes([pair[0], pair[1]]));
+    let length = usize::from(u16::from_le_bytes([pair[2], pair[3]]));
+    start..start + length
 }
 
-// The number in the two bytes at `at`, the lower byte first.
-fn number_at(bytes: &[u8], at: usize) -> usize
-    requires { at + 1 < 2 ^ 64 }
-    ensures value { result ≡ number_at bytes.now at }
-    ensures small { result < 65536 }
+// The pairs of the index; nothing where the file is too short for them.
+fn index_of(bytes: &[u8]) -> Option<&[[u8; 4]]>
+    ensures { MatchOption result (length bytes.now < 2 + 4 * count_of bytes.now) (λ pairs. (2 + 4 * count_of bytes.now ≤ length bytes.now) × (pairs.now ≡ pairs_in bytes.now)) }
 {
-    usize::from(byte_at(bytes, at)) + 256 * usize::from(byte_at(bytes, at + 1))
+    let (count, rest) = bytes.split_first_chunk::<2>()?;
+    let (pairs, _) = rest.as_chunks::<4>();
+    pairs.get(..usize::from(u16::from_le_bytes(*count)))
 }
 
-// Where the text `order` begins.
-fn offset_of(bytes: &[u8], order: usize) -> usize
-    requires { order < 65536 }
-    ensures value { result ≡ offset_of bytes.now order }
-    ensures small { result < 65536 }
-{
-    number_at(bytes, 2 + 4 * order)
-}
-
-// Where the text `order` ends.
-fn end_of(bytes: &[u8], order: usize) -> usize
-    requires { order < 65536 }
-    ensures { result ≡ end_of bytes.now order }
-{
-    offset_of(bytes, order) + number_at(bytes, 4 + 4 * order)
-}
-
-// Whether each of the first `count` texts lies in the file and begins no earlier than the one before it ends.
-fn all_lie(bytes: &[u8], count: usize) -> bool
-    requires { count < 65536 }
-    ensures { result ≡ all_lie bytes.now count }
+// Whether each text lies in the file and begins no earlier than the one before it ends.
+fn all_lie(bytes: &[u8], index: &[[u8; 4]]) -> bool
+    requires { index.now ≡ pairs_in bytes.now }
+    ensures { result ≡ all_lie bytes.now (count_of bytes.now) }
 {
     let mut end = 0;
-    for order in 0..count {
-        if offset_of(bytes, order) < end {
+    for pair in index {
+        let place = place_of(*pair);
+        if place.start < end || place.end > bytes.len() {
             return false;
         }
-        end = end_of(bytes, order);
-        if end > bytes.len() {
-            return false;
-        }
+        end = place.end;
     }
     true
 }
@@ -65,23 +47,29 @@ fn all_lie(bytes: &[u8], count: usize) -> bool
 #[derive(Clone, Copy)]
 pub struct SessionFile<'a> {
     bytes: &'a [u8],
+    // where each text lies
+    index: &'a [[u8; 4]],
+    ghost checked: { sound bytes.now ≡ true },
+    ghost pairs: { index.now ≡ pairs_in bytes.now },
 }
 
 impl<'a> SessionFile<'a> {
+    ghost use Rattle.index.specs.Apart.{Apart};
+    ghost use Rattle.index.specs.Texts.{texts};
+    ghost use Rattle.index.specs.Opened.{texts_of, said};
+
     // Checks the whole index of a file.
     pub fn open(bytes: &'a [u8]) -> Result<SessionFile<'a>, Refusal>
         ensures texts { said result ≡ texts bytes.now }
         ensures same { IfOk result (λ f. f.bytes.now ≡ bytes.now) }
         ensures apart { IfOk result (λ f. Apart f.bytes.now) }
     {
-        if bytes.len() < 2 || bytes.len() > MOST {
-            return Err(Refusal::BadIndex);
+        match index_of(bytes) {
+            Some(index) if bytes.len() <= MOST && all_lie(bytes, index) => {
+                Ok(SessionFile { bytes, index })
+            }
+            _ => Err(Refusal::BadIndex),
         }
-        let count = number_at(bytes, 0);
-        if 2 + 4 * count > bytes.len() || !all_lie(bytes, count) {
-            return Err(Refusal::BadIndex);
-        }
-        Ok(SessionFile { bytes })
     }
 
     // How many order texts there are.
@@ -89,21 +77,17 @@ impl<'a> SessionFile<'a> {
         ensures value { result ≡ length (texts_of self.now) }
         ensures small { result < 65536 }
     {
-        number_at(self.bytes, 0)
+        self.index.len()
     }
 
     // The text `order`, from 0; nothing where there is none.
     pub fn text(&self, order: usize) -> &'a [u8]
         ensures { result.now ≡ slice_index_or (texts_of self.now) order [] }
     {
-        if order >= self.count() {
-            return &self.bytes[0..0];
+        match self.index.get(order) {
+            Some(pair) => &self.bytes[place_of(*pair)],
+            None => &[],
         }
-        let end = end_of(self.bytes, order);
-        if end > self.bytes.len() {
-            return &self.bytes[0..0];
-        }
-        &self.bytes[offset_of(self.bytes, order)..end]
     }
 }
 
