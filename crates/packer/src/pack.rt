@@ -8,7 +8,7 @@ ghost use Rattle.packer.specs.Pieces.{Pieces};
 ghost use Rattle.packer.specs.Packed.{number_bytes, pairs_from, all_bytes, packed};
 
 use crate::fault::*;
-use crate::lines::split_line;
+use crate::lines::lines_of;
 use index::file::MOST;
 use std::alloc::Global;
 
@@ -26,11 +26,9 @@ fn sizes_of(lines: &[u8]) -> Sizes
 {
     let mut count = 0;
     let mut bytes = 0;
-    let mut rest = lines;
-    while let Some((line, after)) = split_line(rest) {
+    for line in lines_of(lines) {
         count += 1;
         bytes += line.len();
-        rest = after;
     }
     Sizes { count, bytes }
 }
@@ -40,7 +38,7 @@ fn put_number(file: &mut Vec<u8>, number: usize) -> Result<(), PackFault>
     requires { number < 65536 }
     ensures { MatchResult result (λ _. file.new.items ≡ file.old.items ++ number_bytes number) (λ e. e ≡ Memory) }
 {
-    file.extend_from_slice(&[(number % 256) as u8, (number / 256) as u8])?;
+    file.extend_from_slice(&(number as u16).to_le_bytes())?;
     Ok(())
 }
 
@@ -50,12 +48,10 @@ fn put_pairs(file: &mut Vec<u8>, lines: &[u8], from: usize) -> Result<(), PackFa
     ensures { MatchResult result (λ _. file.new.items ≡ file.old.items ++ pairs_from from (lines_of lines.now)) (λ e. e ≡ Memory) }
 {
     let mut offset = from;
-    let mut rest = lines;
-    while let Some((line, after)) = split_line(rest) {
+    for line in lines_of(lines) {
         put_number(file, offset)?;
         put_number(file, line.len())?;
         offset += line.len();
-        rest = after;
     }
     Ok(())
 }
@@ -64,10 +60,8 @@ fn put_pairs(file: &mut Vec<u8>, lines: &[u8], from: usize) -> Result<(), PackFa
 fn put_texts(file: &mut Vec<u8>, lines: &[u8]) -> Result<(), PackFault>
     ensures { MatchResult result (λ _. file.new.items ≡ file.old.items ++ all_bytes (lines_of lines.now)) (λ e. e ≡ Memory) }
 {
-    let mut rest = lines;
-    while let Some((line, after)) = split_line(rest) {
+    for line in lines_of(lines) {
         file.extend_from_slice(line)?;
-        rest = after;
     }
     Ok(())
 }

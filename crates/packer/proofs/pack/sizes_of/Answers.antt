@@ -1,12 +1,18 @@
 use Rattle.std.proofs.Common.{arith}
-use Rattle.packer.proofs.Written.{count_more, bytes_more}
+use Rattle.packer.proofs.Written.{few, count_more, bytes_more}
 use Rattle.packer.proofs.pack.sizes_of.Goals as goal
 
-pub loop-line-preserved : goal.loop-line-preserved
-loop-line-preserved c =
-    let s = c.in-Some.ensures in
-    let count = count_more _ _ _ s in
-    let bytes = bytes_more _ _ _ s in
-    let shorter = s.shorter in
-    let bound = s.bound in
-    (omega arith, omega arith, omega arith, omega arith)
+pub overflow_add-count : goal.overflow_add-count
+overflow_add-count c =
+    let most = few c.args.lines.now in
+    let more = count_more _ _ _ c.in-Some.ensures.steps in
+    omega arith
+
+pub overflow_add-bytes : goal.overflow_add-bytes
+overflow_add-bytes c =
+    let most = few c.args.lines.now in
+    let more = bytes_more _ _ _ c.in-Some.ensures.steps in
+    omega arith
+
+pub returns-clause-bound : goal.returns-clause-bound
+returns-clause-bound c = let most = few c.args.lines.now in (omega arith, omega arith)
