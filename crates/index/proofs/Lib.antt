@@ -1,4 +1,4 @@
-pub mod Pairs
+pub mod Index
 pub mod Lies
 pub mod Within
 pub mod Opened

@@ -1,31 +1,13 @@
 // Session files: the index, its check, and the order texts that it names.
-ghost use Rattle.std.specs.Prelude.{◌≡◌, ◌+◌, ◌*◌, ◌<◌, ◌≤◌, [], true, length, IfOk, MatchOption, slice_index_or};
-ghost use Rattle.index.specs.Index.{number_at, count_of, pairs_in, all_lie, sound};
+ghost use Rattle.std.specs.Prelude.{◌≡◌, ◌<◌, [], true, length, IfOk, slice_index_or};
+ghost use Rattle.index.specs.Index.{count_of, pairs_in, all_lie, sound};
 
+use crate::pairs::{index_of, place_of};
+use crate::texts::Texts;
 use refusals::refusal::Refusal;
-use std::ops::Range;
 
 // The most bytes that a session file has.
 pub const MOST: usize = 16384;
-
-// Where a text lies, by its pair of the index: the lower byte of each number comes first.
-fn place_of(pair: [u8; 4]) -> Range<usize>
-    ensures start { result.start ≡ number_at pair 0 }
-    ensures end { result.end ≡ number_at pair 0 + number_at pair 2 }
-{
-    let start = usize::from(u16::from_le_bytes([pair[0], pair[1]]));
-    let length = usize::from(u16::from_le_bytes([pair[2], pair[3]]));
-    start..start + length
-}
-
-// The pairs of the index; nothing where the file is too short for them.
-fn index_of(bytes: &[u8]) -> Option<&[[u8; 4]]>
-    ensures { MatchOption result (length bytes.now < 2 + 4 * count_of bytes.now) (λ pairs. (2 + 4 * count_of bytes.now ≤ length bytes.now) × (pairs.now ≡ pairs_in bytes.now)) }
-{
-    let (count, rest) = bytes.split_first_chunk::<2>()?;
-    let (pairs, _) = rest.as_chunks::<4>();
-    pairs.get(..usize::from(u16::from_le_bytes(*count)))
-}
 
 // Whether each text lies in the file and begins no earlier than the one before it ends.
 fn all_lie(bytes: &[u8], index: &[[u8; 4]]) -> bool
@@ -57,6 +39,7 @@ impl<'a> SessionFile<'a> {
     ghost use Rattle.index.specs.Apart.{Apart};
     ghost use Rattle.index.specs.Texts.{texts};
     ghost use Rattle.index.specs.Opened.{texts_of, said};
+    ghost use Rattle.index.specs.Left.{texts_left};
 
     // Checks the whole index of a file.
     pub fn open(bytes: &'a [u8]) -> Result<SessionFile<'a>, Refusal>
@@ -87,6 +70,17 @@ impl<'a> SessionFile<'a> {
         match self.index.get(order) {
             Some(pair) => &self.bytes[place_of(*pair)],
             None => &[],
+        }
+    }
+
+    // All the texts, one after the other.
+    pub fn texts(&self) -> Texts<'a>
+        ensures texts { texts_left result ≡ texts_of self.now }
+        ensures few { length (texts_left result) < 65536 }
+    {
+        Texts {
+            bytes: self.bytes,
+            index: self.index,
         }
     }
 }
@@ -131,6 +125,16 @@ mod tests {
             assert!(rt; file.text(order) == *text);
         }
         assert!(rt; file.text(6).is_empty());
+        Ok(())
+    }
+
+    #[test]
+    fn texts_come_in_their_order(rt: HostRuntime) -> Result<(), Fail> {
+        let file = SessionFile::open(b"\x02\x00\x0a\x00\x01\x00\x0b\x00\x02\x00ABC")?;
+        let mut texts = file.texts();
+        assert!(rt; matches!(texts.next(), Some(b"A")));
+        assert!(rt; matches!(texts.next(), Some(b"BC")));
+        assert!(rt; texts.next().is_none());
         Ok(())
     }
 }

@@ -52,9 +52,9 @@ fn play_orders(
 {
     let mut at = start;
     let mut phase = Phase::LaidOut(layout);
-    for place in 0..file.count() {
+    for (place, text) in file.texts().enumerate() {
         let order = place as u32 + 1;
-        let obeyed = carry_out(phase, file.text(place), words, nodes, descriptors, scanners);
+        let obeyed = carry_out(phase, text, words, nodes, descriptors, scanners);
         phase = obeyed.phase;
         match print_reply(out, at, order, obeyed.reply) {
             Ok(end) => at = end,

@@ -1,6 +1,6 @@
 use Rattle.std.proofs.Common.{◌≡◌, ◌<◌, [], length, get_or, sym, ap, ◌∙◌, arith}
 use Rattle.index.specs.Index.{count_of, all_lie}
-use Rattle.index.proofs.Pairs.{length_pairs, starts, ends}
+use Rattle.index.proofs.Index.{length_pairs, starts, ends}
 use Rattle.index.proofs.Lies.{begins_early, leaves, one_more, end_before_more}
 use Rattle.index.proofs.file.all_lie.Goals as goal
 use Rattle.index.proofs.file.all_lie.Goals.{then-place-end-via-then-place-end, then-place-end-via-else-place-end+then-place-bytes}

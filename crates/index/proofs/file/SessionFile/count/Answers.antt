@@ -1,6 +1,6 @@
 use Rattle.std.proofs.Common.{length, ap, arith}
 use Rattle.index.specs.Opened.{texts_of}
-use Rattle.index.proofs.Pairs.{length_pairs}
+use Rattle.index.proofs.Index.{length_pairs}
 use Rattle.index.proofs.Within.{count_in, few}
 use Rattle.index.proofs.file.SessionFile.count.Goals as goal
 

@@ -1,7 +1,7 @@
 use Rattle.std.proofs.Common.{◌<◌, length, get_or, ap, ◌∙◌, arith}
 use Rattle.index.specs.Index.{count_of}
 use Rattle.index.specs.Opened.{texts_of}
-use Rattle.index.proofs.Pairs.{length_pairs, starts, ends}
+use Rattle.index.proofs.Index.{length_pairs, starts, ends}
 use Rattle.index.proofs.Within.{past, there, sound_apart}
 use Rattle.index.proofs.file.SessionFile.text.Goals as goal
 

@@ -1,8 +1,11 @@
 -- The pairs of the index, and the numbers in them.
-use Rattle.std.proofs.Common.{◌≡◌, ℕ, zero, suc, ◌+◌, ◌*◌, ◌<◌, ◌≤◌, List, length, get_or, take, drop, sym, refl, ap, ◌∙◌, arith}
+use Rattle.std.proofs.Common.{◌≡◌, ℕ, zero, suc, ◌+◌, ◌*◌, ◌<◌, ◌≤◌, List, [], ◌∷◌, map, length, get_or, take, drop, sym, refl, ap, ◌∙◌, arith}
+use Rattle.std.specs.List.{range_with_len}
 use Rattle.std.specs.Simd.{first_chunks}
 use Rattle.std.proofs.lemmas.List.FromFn.{length-map-range_with_len, get_or-map-range_with_len}
 use Rattle.std.proofs.lemmas.List.{get_or-take, get_or-drop, drop-drop, length-take-le, same_lists}
+use Rattle.index.specs.Texts.{text_of, texts_in}
+use Rattle.index.specs.Left.{text_by}
 use Rattle.index.specs.Index.{number_at, count_of, offset_of, length_of, end_of, pair_of, pairs_in}
 
 pub length_pairs : (file : List ℕ) → length (pairs_in file) ≡ count_of file
@@ -58,3 +61,14 @@ pieces file k h =
     ∙ piece_at k (drop 2 file) i d (omega arith)
     ∙ ap (take 4) (drop-drop (4 * i) 2 file)
     ∙ sym (pair_at file i d under))
+
+-- the texts that the pairs name are those that the file says
+text_in : (file : List ℕ) (i : ℕ) → text_by file (pair_of file i) ≡ text_of file i
+text_in file i = λ j. take (long_in file i j) (drop (start_in file i j) file)
+
+same_texts : (file : List ℕ) (ns : List ℕ) → map (text_by file) (map (pair_of file) ns) ≡ map (text_of file) ns
+same_texts file [] = refl
+same_texts file (i ∷ is) = λ j. text_in file i j ∷ same_texts file is j
+
+pub texts_by_pairs : (file : List ℕ) (index : List (List ℕ)) → index ≡ pairs_in file → map (text_by file) index ≡ texts_in file
+texts_by_pairs file index e = ap (map (text_by file)) e ∙ same_texts file (range_with_len 0 (count_of file))

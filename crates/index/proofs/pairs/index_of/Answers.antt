@@ -4,8 +4,8 @@ use Rattle.std.specs.List.{PartBy}
 use Rattle.std.specs.Simd.{first_chunks}
 use Rattle.std.proofs.lemmas.List.{get_or-take}
 use Rattle.index.specs.Index.{count_of, pairs_in}
-use Rattle.index.proofs.Pairs.{pieces}
-use Rattle.index.proofs.file.index_of.Goals as goal
+use Rattle.index.proofs.Index.{pieces}
+use Rattle.index.proofs.pairs.index_of.Goals as goal
 
 -- the number in the first two bytes
 counted : (file front : List ℕ) → front ≡ take 2 file → get_or front 0 0 + get_or front 1 0 * 256 ≡ count_of file
