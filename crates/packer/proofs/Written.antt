@@ -1,19 +1,10 @@
--- What one line adds to the lines that are counted, and how much they hold.
+-- How much the lines of a text hold, and how long their file is.
 use Rattle.std.proofs.Common.{◌≡◌, ℕ, ◌+◌, ◌*◌, ◌≤◌, cond, eqb, List, [], ◌∷◌, length, ap, ◌∙◌, inl, inr, arith}
-use Rattle.std.proofs.lemmas.List.{length-append}
 use Rattle.std.proofs.lemmas.Bool.{cases_Bool}
 use Rattle.packer.specs.Lines.{onto, lines_of}
 use Rattle.packer.specs.Packed.{all_bytes, packed}
 use Rattle.packer.proofs.FirstLine.{feed, other}
 use Rattle.packer.proofs.Pairs.{length_packed}
-
--- the lines that are left are a first one and others
-module _ (left others : List (List ℕ)) (line : List ℕ) (s : left ≡ line ∷ others) where
-  pub count_more : length left ≡ 1 + length others
-  count_more = let e = ap length s in omega arith
-
-  pub bytes_more : length (all_bytes left) ≡ length line + length (all_bytes others)
-  bytes_more = ap (λ ls. length (all_bytes ls)) s ∙ length-append line (all_bytes others)
 
 -- the lines hold no more than the text, and there are no more of them than it has bytes
 onto_few : (b : ℕ) (ls : List (List ℕ)) → (length (onto b ls) ≤ 1 + length ls) × (length (all_bytes (onto b ls)) ≡ 1 + length (all_bytes ls))

@@ -19,6 +19,7 @@ struct Sizes {
     bytes: usize,
 }
 
+#[tactic(auto, using(crate::proofs::Written::few))]
 fn sizes_of(lines: &[u8]) -> Sizes
     ensures count { result.count ≡ length (lines_of lines.now) }
     ensures bytes { result.bytes ≡ length (all_bytes (lines_of lines.now)) }
@@ -68,7 +69,9 @@ fn put_texts(file: &mut Vec<u8>, lines: &[u8]) -> Result<(), PackFault>
 
 // Writes the session file of lines whose sizes are known.
 fn write_file(heap: Global, lines: &[u8], sizes: Sizes) -> Result<Vec<u8>, PackFault>
-    requires { (sizes.count ≡ length (lines_of lines.now)) × ((sizes.bytes ≡ length (all_bytes (lines_of lines.now))) × (2 + 4 * sizes.count + sizes.bytes ≤ 16384)) }
+    requires count { sizes.count ≡ length (lines_of lines.now) }
+    requires bytes { sizes.bytes ≡ length (all_bytes (lines_of lines.now)) }
+    requires fits { 2 + 4 * sizes.count + sizes.bytes ≤ 16384 }
     ensures { MatchResult result (λ v. v.items ≡ packed (lines_of lines.now)) (λ e. e ≡ Memory) }
 {
     let texts_from = 2 + 4 * sizes.count;
@@ -80,6 +83,7 @@ fn write_file(heap: Global, lines: &[u8], sizes: Sizes) -> Result<Vec<u8>, PackF
 }
 
 // The session file whose order texts are the lines.
+#[tactic(auto, using(crate::proofs::Fits::long_text, crate::proofs::Fits::long_file))]
 pub fn pack(heap: Global, lines: &[u8]) -> Result<Vec<u8>, PackFault>
     ensures too_long { is_too_long result ≡ nat_lt 16384 (length (packed (lines_of lines.now))) }
     ensures bytes { IfOk result (λ v. v.items ≡ packed (lines_of lines.now)) }
