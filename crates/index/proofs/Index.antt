@@ -8,10 +8,10 @@ use Rattle.index.specs.Texts.{text_of, texts_in}
 use Rattle.index.specs.Left.{text_by}
 use Rattle.index.specs.Index.{number_at, count_of, offset_of, length_of, end_of, pair_of, pairs_in}
 
-pub length_pairs : (file : List ℕ) → length (pairs_in file) ≡ count_of file
+length_pairs : (file : List ℕ) → length (pairs_in file) ≡ count_of file
 length_pairs file = length-map-range_with_len (pair_of file) 0 (count_of file)
 
-pub pair_at : (file : List ℕ) (i : ℕ) (d : List ℕ) → i < count_of file → get_or (pairs_in file) i d ≡ pair_of file i
+pair_at : (file : List ℕ) (i : ℕ) (d : List ℕ) → i < count_of file → get_or (pairs_in file) i d ≡ pair_of file i
 pair_at file i d h = get_or-map-range_with_len (pair_of file) 0 (count_of file) i i d h (omega arith)
 
 -- the bytes of a pair, and the numbers that they are
@@ -30,13 +30,20 @@ long_in file i =
     let high = byte_in file i 3 (4 + 4 * i + 1) (omega arith) (omega arith) in
     λ j. low j + 256 * high j
 
--- where the text of a pair begins and ends
-module _ (file : List ℕ) (i : ℕ) (h : i < count_of file) (pair d : List ℕ) (is : pair ≡ get_or (pairs_in file) i d) where
-  pub starts : number_at pair 0 ≡ offset_of file i
-  starts = ap (λ p. number_at p 0) (is ∙ pair_at file i d h) ∙ start_in file i
+-- an index that is the pairs of a file: how many there are, and where the text of each begins and ends
+module _ (file : List ℕ) (index : List (List ℕ)) (is : index ≡ pairs_in file) where
+  pub many : length index ≡ count_of file
+  many = ap length is ∙ length_pairs file
 
-  pub ends : number_at pair 0 + number_at pair 2 ≡ end_of file i
-  ends = ap (λ p. number_at p 0 + number_at p 2) (is ∙ pair_at file i d h) ∙ (λ j. start_in file i j + long_in file i j)
+  module _ (i : ℕ) (h : i < length index) (pair d : List ℕ) (at : pair ≡ get_or index i d) where
+    same : pair ≡ pair_of file i
+    same = at ∙ ap (λ l. get_or l i d) is ∙ pair_at file i d (omega (arith, many))
+
+    pub starts : number_at pair 0 ≡ offset_of file i
+    starts = ap (λ p. number_at p 0) same ∙ start_in file i
+
+    pub ends : number_at pair 0 + number_at pair 2 ≡ end_of file i
+    ends = ap (λ p. number_at p 0 + number_at p 2) same ∙ (λ j. start_in file i j + long_in file i j)
 
 -- a file cut into pieces of four bytes behind its count
 piece_at : (k : ℕ) (xs : List ℕ) (i : ℕ) (d : List ℕ) → i < k → get_or (first_chunks 4 k xs) i d ≡ take 4 (drop (4 * i) xs)

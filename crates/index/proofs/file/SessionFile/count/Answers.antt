@@ -1,6 +1,6 @@
-use Rattle.std.proofs.Common.{length, ap, arith}
+use Rattle.std.proofs.Common.{arith}
 use Rattle.index.specs.Opened.{texts_of}
-use Rattle.index.proofs.Index.{length_pairs}
+use Rattle.index.proofs.Index.{many}
 use Rattle.index.proofs.Within.{count_in, few}
 use Rattle.index.proofs.file.SessionFile.count.Goals as goal
 
@@ -8,8 +8,6 @@ pub returns : goal.returns
 unfolding texts_of
 returns c =
     let f = c.args.self.now in
-    let pairs = length_pairs f.bytes.now in
-    let texts = count_in f.bytes.now in
-    let many = ap length f.pairs in
+    let pairs = many f.bytes.now f.index.now f.pairs in
     let small = few f.bytes.now f.checked in
-    record { value = omega arith; small = omega arith }
+    record { value = omega (arith, count_in f.bytes.now); small = omega arith }
