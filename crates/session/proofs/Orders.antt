@@ -10,33 +10,33 @@ use Rattle.session.specs.declared.fault.Played.{Played}
 use Rattle.session.specs.Plays.{State, state, Ended, ended, whole, broken, on_line, after_order, orders_from}
 
 -- where no order has been carried out yet
-pub all_left : (n : ℕ) → n ≡ 0 → (left texts : List (List ℕ)) → left ≡ texts → (s : State) → orders_from (n + 1) left s ≡ orders_from 1 texts s
-all_left n e left texts same s j = orders_from (e j + 1) (same j) s
+pub all_left : (n : ℕ) → n ≡ 1 → (left texts : List (List ℕ)) → left ≡ texts → (s : State) → orders_from n left s ≡ orders_from 1 texts s
+all_left n e left texts same s j = orders_from (e j) (same j) s
 
--- after n orders
-module _ (n : ℕ) (left : List (List ℕ)) (s : State) (all : Ended) (inv : orders_from (n + 1) left s ≡ all) where
+-- before order n
+module _ (n : ℕ) (left : List (List ℕ)) (s : State) (all : Ended) (inv : orders_from n left s ≡ all) where
   pub no_more : left ≡ [] → ended (whole s.at) s.out s.tables ≡ all
-  no_more e = sym (ap (λ l. orders_from (n + 1) l s) e) ∙ inv
+  no_more e = sym (ap (λ l. orders_from n l s) e) ∙ inv
 
   -- the order does r and leaves the tables t, and its line leaves `out`
-  module _ (i : ℕ) (here : i ≡ n) (text : List ℕ) (rest : List (List ℕ)) (is : left ≡ text ∷ rest)
+  module _ (order : ℕ) (here : order ≡ n) (text : List ℕ) (rest : List (List ℕ)) (is : left ≡ text ∷ rest)
       (r : Replied) (did : r ≡ (obeys s.phase text s.tables).done)
       (t : Tables) (leaves : t ≡ (obeys s.phase text s.tables).tables)
-      (out : List ℕ) (wrote : out ≡ written_at s.out s.at (line_of (i + 1) (values r.reply))) where
-    next : after_order (i + 1) (obeys s.phase text s.tables) s (orders_from (i + 1 + 1) rest) ≡ all
-    next = (λ j. orders_from (here j + 1) (sym is j) s) ∙ inv
+      (out : List ℕ) (wrote : out ≡ written_at s.out s.at (line_of order (values r.reply))) where
+    next : after_order order (obeys s.phase text s.tables) s (orders_from (order + 1) rest) ≡ all
+    next = (λ j. orders_from (here j) (sym is j) s) ∙ inv
 
-    writes : out ≡ written_at s.out s.at (line_of (i + 1) (values (obeys s.phase text s.tables).done.reply))
-    writes = wrote ∙ ap (λ (x : Replied). written_at s.out s.at (line_of (i + 1) (values x.reply))) did
+    writes : out ≡ written_at s.out s.at (line_of order (values (obeys s.phase text s.tables).done.reply))
+    writes = wrote ∙ ap (λ (x : Replied). written_at s.out s.at (line_of order (values x.reply))) did
 
-    line : (e : Result ℕ Refusal) → e ≡ end_at s.out s.at (line_of (i + 1) (values r.reply))
-        → on_line (i + 1) e (state r.phase t s.at out) (λ end. orders_from (i + 1 + 1) rest (state r.phase t end out)) ≡ all
+    line : (e : Result ℕ Refusal) → e ≡ end_at s.out s.at (line_of order (values r.reply))
+        → on_line order e (state r.phase t s.at out) (λ end. orders_from (order + 1) rest (state r.phase t end out)) ≡ all
     line e at =
-        let ends = at ∙ ap (λ (x : Replied). end_at s.out s.at (line_of (i + 1) (values x.reply))) did in
-        (λ j. on_line (i + 1) (ends j) (state (did j).phase (leaves j) s.at (writes j)) (λ end. orders_from (i + 1 + 1) rest (state (did j).phase (leaves j) end (writes j)))) ∙ next
+        let ends = at ∙ ap (λ (x : Replied). end_at s.out s.at (line_of order (values x.reply))) did in
+        (λ j. on_line order (ends j) (state (did j).phase (leaves j) s.at (writes j)) (λ end. orders_from (order + 1) rest (state (did j).phase (leaves j) end (writes j)))) ∙ next
 
-    pub goes_on : (end : ℕ) → Ok end ≡ end_at s.out s.at (line_of (i + 1) (values r.reply)) → (m : ℕ) → m ≡ n + 1 → orders_from (m + 1) rest (state r.phase t end out) ≡ all
-    goes_on end at m e = (λ j. orders_from ((e ∙ ap (λ k. k + 1) (sym here)) j + 1) rest (state r.phase t end out)) ∙ line (Ok end) at
+    pub goes_on : (end : ℕ) → Ok end ≡ end_at s.out s.at (line_of order (values r.reply)) → (m : ℕ) → m ≡ order + 1 → orders_from m rest (state r.phase t end out) ≡ all
+    goes_on end at m e = ap (λ k. orders_from k rest (state r.phase t end out)) e ∙ line (Ok end) at
 
-    pub stops : (cause : Refusal) → Err cause ≡ end_at s.out s.at (line_of (i + 1) (values r.reply)) → (p : Played) → p ≡ broken (i + 1) cause s.at → ended p out t ≡ all
+    pub stops : (cause : Refusal) → Err cause ≡ end_at s.out s.at (line_of order (values r.reply)) → (p : Played) → p ≡ broken order cause s.at → ended p out t ≡ all
     stops cause at p says = ap (λ x. ended x out t) says ∙ line (Err cause) at
