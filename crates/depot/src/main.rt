@@ -3,7 +3,6 @@
 
 use anyhow::anyhow;
 use index::file::MOST;
-use packer::fault::PackFault;
 use packer::pack::pack;
 use session::play::play;
 use std::io::Write;
@@ -23,15 +22,11 @@ Order texts:
 ";
 
 // Room for the lines of any session.
-
 const ROOM: usize = 131072;
 
 // The bytes of a file; an error names the file.
 fn read_file(rt: &HostRuntime, path: &str) -> anyhow::Result<Vec<u8>> {
-    match fs::read(rt, path) {
-        Ok(bytes) => Ok(bytes),
-        Err(error) => Err(anyhow!(format!(in rt.alloc(); "{path}: {error}")?)),
-    }
+    fs::read(rt, path).map_err(|error| anyhow!("{path}: {error}"))
 }
 
 // Plays a session file and prints what it writes.
@@ -42,35 +37,19 @@ fn play_file(rt: &HostRuntime, path: &str) -> anyhow::Result<()> {
     }
     let mut out = vec![in rt.alloc(); 0u8; ROOM]?;
     let played = play(&bytes, &mut out);
-    if let Some(lines) = out.get(0..played.written) {
-        rt.stdout().write_all(lines)?;
-    }
+    rt.stdout().write_all(&out[..played.written])?;
     match played.fault {
         None => Ok(()),
-        Some(fault) => {
-            let order = fault.order;
-            let cause = fault.cause;
-            let why = cause.explanation();
-            Err(anyhow!(format!(in rt.alloc();
-                "the session ended at order {order} with {cause}: {why}"
-            )?))
-        }
+        Some(fault) => Err(fault.into()),
     }
 }
 
 // Packs the lines of a text into a session file.
 fn pack_file(rt: &HostRuntime, lines: &str, path: &str) -> anyhow::Result<()> {
     let text = read_file(rt, lines)?;
-    match pack(rt.alloc(), &text) {
-        Ok(bytes) => {
-            fs::write(rt, path, &bytes)?;
-            Ok(())
-        }
-        Err(PackFault::TooLong) => Err(anyhow!(
-            "the session file would be longer than 16,384 bytes"
-        )),
-        Err(PackFault::Memory) => Err(anyhow!("there is no memory for the session file")),
-    }
+    let bytes = pack(rt.alloc(), &text)?;
+    fs::write(rt, path, &bytes)?;
+    Ok(())
 }
 
 fn run(rt: &HostRuntime) -> anyhow::Result<()> {

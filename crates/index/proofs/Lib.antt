@@ -1,3 +1,4 @@
+pub mod Index
 pub mod Lies
 pub mod Within
 pub mod Opened

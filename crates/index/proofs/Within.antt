@@ -1,31 +1,35 @@
--- No text of a checked file is cut.
-use Rattle.std.proofs.Common.{◌≡◌, ℕ, ◌+◌, ◌-◌, ◌*◌, ◌<◌, ◌≤◌, true, ◌&&◌, leb, List, [], length, get_or, take, drop, Ok, sym, ap, ◌∙◌, arith}
+-- The texts of a checked file: how many there are, and what each is.
+use Rattle.std.proofs.Common.{◌≡◌, ℕ, ◌+◌, ◌-◌, ◌*◌, ◌<◌, ◌≤◌, true, false, ◌&&◌, leb, List, [], length, get_or, take, drop, Ok, Err, sym, ◌∙◌, arith}
 use Rattle.std.proofs.lemmas.List.FromFn.{length-map-range_with_len, get_or-map-range_with_len}
-use Rattle.std.proofs.lemmas.List.{get_or_past, same_lists}
-use Rattle.std.proofs.lemmas.Bool.{le-leb, lt-leb, and_parts, and_from, cond-true, cond-false}
+use Rattle.std.proofs.lemmas.List.{get_or_past}
+use Rattle.std.proofs.lemmas.Bool.{le-leb, lt-leb, leb-true, and_parts, and_from, and_left, and_right, cond-true, cond-false}
+use Rattle.refusals.specs.declared.refusal.Refusal.TheVariants.{BadIndex}
 use Rattle.index.specs.Index.{count_of, offset_of, length_of, end_of, all_lie, sound}
 use Rattle.index.specs.Texts.{text_of, texts_in, texts}
-use Rattle.index.specs.Opened.{text_within, texts_within}
 use Rattle.index.specs.Apart.{Apart}
 use Rattle.index.proofs.Lies.{apart}
 
-pub count_within : (file : List ℕ) → length (texts_within file) ≡ count_of file
-count_within file = length-map-range_with_len (text_within file) 0 (count_of file)
+pub count_in : (file : List ℕ) → length (texts_in file) ≡ count_of file
+count_in file = length-map-range_with_len (text_of file) 0 (count_of file)
 
-at : (file : List ℕ) (i : ℕ) → i < count_of file → get_or (texts_within file) i [] ≡ text_within file i
-at file i h = get_or-map-range_with_len (text_within file) 0 (count_of file) i i [] h (omega arith)
+-- the text that a pair of the index names, and none past the last
+pub there : (file : List ℕ) (i : ℕ) → i < count_of file → (start : ℕ) → start ≡ offset_of file i → (end : ℕ) → end ≡ end_of file i
+    → take (end - start) (drop start file) ≡ get_or (texts_in file) i []
+there file i h start s end e =
+    let long : end - start ≡ length_of file i = omega arith in
+    (λ j. take (long j) (drop (s j) file)) ∙ sym (get_or-map-range_with_len (text_of file) 0 (count_of file) i i [] h (omega arith))
 
--- past the last text, and where a text leaves the file
-pub past : (file : List ℕ) (i : ℕ) → count_of file ≤ i → [] ≡ get_or (texts_within file) i []
-past file i h = sym (get_or_past (texts_within file) i [] (rw count_within h))
+pub past : (file : List ℕ) (i : ℕ) → count_of file ≤ i → [] ≡ get_or (texts_in file) i []
+past file i h = sym (get_or_past (texts_in file) i [] (rw count_in h))
 
-pub cut : (file : List ℕ) (i : ℕ) → i < count_of file → length file < end_of file i → [] ≡ get_or (texts_within file) i []
-cut file i h out = sym (at file i h ∙ cond-false _ _ _ (lt-leb _ _ out))
-
-pub there : (file : List ℕ) (i : ℕ) → i < count_of file → end_of file i ≤ length file → take (end_of file i - offset_of file i) (drop (offset_of file i) file) ≡ get_or (texts_within file) i []
-there file i h l =
-    let same : end_of file i - offset_of file i ≡ length_of file i = omega arith in
-    ap (λ n. take n (drop (offset_of file i) file)) same ∙ sym (at file i h ∙ cond-true _ _ _ (le-leb _ _ l))
+-- the parts of the check
+pub few : (file : List ℕ) → sound file ≡ true → 2 + 4 * count_of file ≤ 16384
+few file e =
+    let size = leb 2 (length file) && leb (length file) 16384 in
+    let index = leb (2 + 4 * count_of file) (length file) in
+    let short : length file ≤ 16384 = leb-true _ _ (and_parts (leb 2 (length file)) _ (and_parts size _ e).0).1 in
+    let fits : 2 + 4 * count_of file ≤ length file = leb-true _ _ (and_parts index _ (and_parts size _ e).1).0 in
+    omega arith
 
 pub sound_apart : (file : List ℕ) → sound file ≡ true → Apart file
 sound_apart file e =
@@ -33,19 +37,23 @@ sound_apart file e =
     let index = leb (2 + 4 * count_of file) (length file) in
     apart file (and_parts index _ (and_parts size _ e).1).1
 
-pub all_within : (file : List ℕ) → sound file ≡ true → texts_within file ≡ texts_in file
-all_within file e =
-    same_lists _ _ (count_within file ∙ sym (length-map-range_with_len (text_of file) 0 (count_of file)))
-    (λ k d h.
-    let less : k < count_of file = rw count_within at h in
-    get_or-map-range_with_len (text_within file) 0 (count_of file) k k d less (omega arith)
-    ∙ cond-true _ _ _ (le-leb _ _ ((sound_apart file e).inside k less))
-    ∙ sym (get_or-map-range_with_len (text_of file) 0 (count_of file) k k d less (omega arith)))
-
--- what opening a checked file says
-pub says : (file : List ℕ) → sound file ≡ true → Ok (texts_within file) ≡ texts file
+-- what opening a checked file says, and one that is not
+pub says : (file : List ℕ) → sound file ≡ true → Ok (texts_in file) ≡ texts file
 unfolding texts
-says file e = ap Ok (all_within file e) ∙ sym (cond-true (sound file) _ _ e)
+says file e = sym (cond-true (sound file) _ _ e)
+
+refuses : (file : List ℕ) → sound file ≡ false → Err BadIndex ≡ texts file
+unfolding texts
+refuses file e = sym (cond-false (sound file) _ _ e)
+
+pub index_cut : (file : List ℕ) → length file < 2 + 4 * count_of file → Err BadIndex ≡ texts file
+index_cut file h = refuses file (and_right _ _ (and_left _ _ (lt-leb _ _ h)))
+
+pub too_long : (file : List ℕ) → 16384 < length file → Err BadIndex ≡ texts file
+too_long file h = refuses file (and_left _ _ (and_right _ _ (lt-leb _ _ h)))
+
+pub texts_fall : (file : List ℕ) → all_lie file (count_of file) ≡ false → Err BadIndex ≡ texts file
+texts_fall file e = refuses file (and_right _ _ (and_right _ _ e))
 
 pub is_sound : (file : List ℕ) → 2 ≤ length file → length file ≤ 16384 → 2 + 4 * count_of file ≤ length file → all_lie file (count_of file) ≡ true → sound file ≡ true
 is_sound file least most index lie = and_from _ _ (and_from _ _ (le-leb _ _ least) (le-leb _ _ most)) (and_from _ _ (le-leb _ _ index) lie)

@@ -1,5 +1,6 @@
 -- The index at the front of a session file: a count, and for each order text its offset and its length.
-use Rattle.std.specs.Prelude.{ℕ, zero, suc, ◌+◌, ◌*◌, Bool, true, ◌&&◌, List, length, nat_le, slice_index}
+use Rattle.std.specs.Prelude.{ℕ, zero, suc, ◌+◌, ◌*◌, Bool, true, ◌&&◌, List, length, map, take, drop, nat_le, slice_index}
+use Rattle.std.specs.List.{range_with_len}
 
 -- the number in the two bytes at `at`, the lower byte first
 abbrev pub number_at : List ℕ → ℕ → ℕ
@@ -16,6 +17,14 @@ length_of file i = number_at file (4 + 4 * i)
 
 abbrev pub end_of : List ℕ → ℕ → ℕ
 end_of file i = offset_of file i + length_of file i
+
+-- the four bytes of the index that say where text i lies
+abbrev pub pair_of : List ℕ → ℕ → List ℕ
+pair_of file i = take 4 (drop (2 + 4 * i) file)
+
+-- these bytes for each text
+abbrev pub pairs_in : List ℕ → List (List ℕ)
+pairs_in file = map (pair_of file) (range_with_len 0 (count_of file))
 
 -- the end of the text before text i
 abbrev pub end_before : List ℕ → ℕ → ℕ

@@ -1,62 +1,26 @@
 // Session files: the index, its check, and the order texts that it names.
-ghost use Rattle.std.specs.Prelude.{◌≡◌, ◌+◌, ◌^◌, ◌<◌, [], length, IfOk, slice_index, slice_index_or};
-ghost use Rattle.index.specs.Index.{number_at, offset_of, end_of, all_lie};
-ghost use Rattle.index.specs.Apart.{Apart};
-ghost use Rattle.index.specs.Texts.{texts};
-ghost use Rattle.index.specs.Opened.{texts_of, said};
+ghost use Rattle.std.specs.Prelude.{◌≡◌, ◌<◌, [], true, length, IfOk, slice_index_or};
+ghost use Rattle.index.specs.Index.{count_of, pairs_in, all_lie, sound};
 
+use crate::pairs::{index_of, place_of};
+use crate::texts::Texts;
 use refusals::refusal::Refusal;
 
 // The most bytes that a session file has.
 pub const MOST: usize = 16384;
 
-// The byte at `at`, or 0 past the end.
-fn byte_at(bytes: &[u8], at: usize) -> u8
-    ensures { result ≡ slice_index bytes.now at }
-{
-    if at < bytes.len() { bytes[at] } else { 0 }
-}
-
-// The number in the two bytes at `at`, the lower byte first.
-fn number_at(bytes: &[u8], at: usize) -> usize
-    requires { at + 1 < 2 ^ 64 }
-    ensures value { result ≡ number_at bytes.now at }
-    ensures small { result < 65536 }
-{
-    usize::from(byte_at(bytes, at)) + 256 * usize::from(byte_at(bytes, at + 1))
-}
-
-// Where the text `order` begins.
-fn offset_of(bytes: &[u8], order: usize) -> usize
-    requires { order < 65536 }
-    ensures value { result ≡ offset_of bytes.now order }
-    ensures small { result < 65536 }
-{
-    number_at(bytes, 2 + 4 * order)
-}
-
-// Where the text `order` ends.
-fn end_of(bytes: &[u8], order: usize) -> usize
-    requires { order < 65536 }
-    ensures { result ≡ end_of bytes.now order }
-{
-    offset_of(bytes, order) + number_at(bytes, 4 + 4 * order)
-}
-
-// Whether each of the first `count` texts lies in the file and begins no earlier than the one before it ends.
-fn all_lie(bytes: &[u8], count: usize) -> bool
-    requires { count < 65536 }
-    ensures { result ≡ all_lie bytes.now count }
+// Whether each text lies in the file and begins no earlier than the one before it ends.
+fn all_lie(bytes: &[u8], index: &[[u8; 4]]) -> bool
+    requires { index.now ≡ pairs_in bytes.now }
+    ensures { result ≡ all_lie bytes.now (count_of bytes.now) }
 {
     let mut end = 0;
-    for order in 0..count {
-        if offset_of(bytes, order) < end {
+    for pair in index {
+        let place = place_of(*pair);
+        if place.start < end || place.end > bytes.len() {
             return false;
         }
-        end = end_of(bytes, order);
-        if end > bytes.len() {
-            return false;
-        }
+        end = place.end;
     }
     true
 }
@@ -65,23 +29,30 @@ fn all_lie(bytes: &[u8], count: usize) -> bool
 #[derive(Clone, Copy)]
 pub struct SessionFile<'a> {
     bytes: &'a [u8],
+    // where each text lies
+    index: &'a [[u8; 4]],
+    ghost checked: { sound bytes.now ≡ true },
+    ghost pairs: { index.now ≡ pairs_in bytes.now },
 }
 
 impl<'a> SessionFile<'a> {
+    ghost use Rattle.index.specs.Apart.{Apart};
+    ghost use Rattle.index.specs.Texts.{texts};
+    ghost use Rattle.index.specs.Opened.{texts_of, said};
+    ghost use Rattle.index.specs.Left.{texts_left};
+
     // Checks the whole index of a file.
     pub fn open(bytes: &'a [u8]) -> Result<SessionFile<'a>, Refusal>
         ensures texts { said result ≡ texts bytes.now }
         ensures same { IfOk result (λ f. f.bytes.now ≡ bytes.now) }
         ensures apart { IfOk result (λ f. Apart f.bytes.now) }
     {
-        if bytes.len() < 2 || bytes.len() > MOST {
-            return Err(Refusal::BadIndex);
+        match index_of(bytes) {
+            Some(index) if bytes.len() <= MOST && all_lie(bytes, index) => {
+                Ok(SessionFile { bytes, index })
+            }
+            _ => Err(Refusal::BadIndex),
         }
-        let count = number_at(bytes, 0);
-        if 2 + 4 * count > bytes.len() || !all_lie(bytes, count) {
-            return Err(Refusal::BadIndex);
-        }
-        Ok(SessionFile { bytes })
     }
 
     // How many order texts there are.
@@ -89,21 +60,28 @@ impl<'a> SessionFile<'a> {
         ensures value { result ≡ length (texts_of self.now) }
         ensures small { result < 65536 }
     {
-        number_at(self.bytes, 0)
+        self.index.len()
     }
 
     // The text `order`, from 0; nothing where there is none.
     pub fn text(&self, order: usize) -> &'a [u8]
         ensures { result.now ≡ slice_index_or (texts_of self.now) order [] }
     {
-        if order >= self.count() {
-            return &self.bytes[0..0];
+        match self.index.get(order) {
+            Some(pair) => &self.bytes[place_of(*pair)],
+            None => &[],
         }
-        let end = end_of(self.bytes, order);
-        if end > self.bytes.len() {
-            return &self.bytes[0..0];
+    }
+
+    // All the texts, one after the other.
+    pub fn texts(&self) -> Texts<'a>
+        ensures texts { texts_left result ≡ texts_of self.now }
+        ensures few { length (texts_left result) < 65536 }
+    {
+        Texts {
+            bytes: self.bytes,
+            index: self.index,
         }
-        &self.bytes[offset_of(self.bytes, order)..end]
     }
 }
 
@@ -147,6 +125,16 @@ mod tests {
             assert!(rt; file.text(order) == *text);
         }
         assert!(rt; file.text(6).is_empty());
+        Ok(())
+    }
+
+    #[test]
+    fn texts_come_in_their_order(rt: HostRuntime) -> Result<(), Fail> {
+        let file = SessionFile::open(b"\x02\x00\x0a\x00\x01\x00\x0b\x00\x02\x00ABC")?;
+        let mut texts = file.texts();
+        assert!(rt; matches!(texts.next(), Some(b"A")));
+        assert!(rt; matches!(texts.next(), Some(b"BC")));
+        assert!(rt; texts.next().is_none());
         Ok(())
     }
 }

@@ -2,3 +2,5 @@
 #![tactic(auto)]
 
 pub mod file;
+mod pairs;
+pub mod texts;

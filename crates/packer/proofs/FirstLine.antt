@@ -1,9 +1,15 @@
 -- The first line of a text.
-use Rattle.std.proofs.Common.{◌≡◌, ℕ, suc, ◌+◌, ◌<◌, ◌≤◌, true, false, cond, not, eqb, List, [], ◌∷◌, length, get_or, take, drop, sym, refl, ap, ◌∙◌, inl, inr, add-one, one-add, arith}
-use Rattle.std.proofs.lemmas.List.{drop_all, length-drop, length-take-le}
-use Rattle.std.proofs.lemmas.List.Sums.{prefix_len-drop_yes, prefix_len-drop_no, prefix_len-drop_all}
-use Rattle.std.proofs.lemmas.Bool.{cases_Bool, eq-eqb, ne_eqb, not_from_true, not_from_false}
-use Rattle.packer.specs.Lines.{onto, lines_of, line_end, Splits}
+use Rattle.std.proofs.Common.{◌≡◌, ℕ, suc, ◌+◌, ◌<◌, true, false, cond, not, eqb, ltb, position, List, [], ◌∷◌, length, take, drop, Some, None, Option, unwrap_or, sym, refl, ap, ◌∙◌, inl, inr, ⊎_elim, add-one, one-add, arith}
+use Rattle.std.specs.List.{PartBy}
+use Rattle.std.proofs.lemmas.List.{drop_all, drop-drop, take_rest}
+use Rattle.std.proofs.lemmas.List.Sums.{prefix_len-le-length}
+use Rattle.std.proofs.lemmas.Bool.{cases_Bool, ltb-false, cond-true, cond-false}
+use Rattle.std.specs.List.{prefix_len}
+use Rattle.packer.specs.Lines.{onto, lines_of}
+
+-- how many bytes stand before the first line feed
+abbrev line_end : List ℕ → ℕ
+line_end text = prefix_len (λ b. not (eqb b 10)) text
 
 -- a text that begins with a line feed, and one that does not
 pub feed : (b : ℕ) (bs : List ℕ) → eqb b 10 ≡ true → (lines_of (b ∷ bs) ≡ [] ∷ lines_of bs) × (line_end (b ∷ bs) ≡ 0)
@@ -26,29 +32,24 @@ first_line [] h = absurd (omega arith)
 first_line (b ∷ []) h = byte_before b [] refl
 first_line (b ∷ (a ∷ rest)) h = byte_before b (a ∷ rest) (ap (onto b) (first_line (a ∷ rest) (omega arith)))
 
--- one byte more on the way to the line's end
-module _ (text : List ℕ) (at : ℕ) (h : at < length text) where
-  pub ends_here : get_or text at 0 ≡ 10 → line_end (drop at text) ≡ 0
-  ends_here e = prefix_len-drop_no (λ b. not (eqb b 10)) text at 0 h (not_from_true _ (eq-eqb _ _ e))
+-- the first line feed, or the end
+ended : (text : List ℕ) → unwrap_or (position (λ b. eqb b 10) text) (length text) ≡ line_end text
+ended text =
+    let at : ℕ = line_end text in
+    elim (cases_Bool (ltb at (length text))) [
+      | inl e ↦ ap (λ r. unwrap_or r (length text)) (cond-true _ (Some at) None e)
+      | inr e ↦ ap (λ r. unwrap_or r (length text)) (cond-false _ (Some at) None e) ∙ (let most = prefix_len-le-length (λ b. not (eqb b 10)) text in let least = ltb-false _ _ e in omega arith)
+    ]
 
-  pub goes_on : (get_or text at 0 ≡ 10 → ⊥) → line_end (drop at text) ≡ 1 + line_end (drop (at + 1) text)
-  goes_on e = prefix_len-drop_yes (λ b. not (eqb b 10)) text at 0 h (not_from_false _ (ne_eqb _ _ e))
+-- what follows the line feed, or nothing
+pub after_feed : {R : Type 0} (now : R → List ℕ) (r : Option R) (none : R) → now none ≡ [] → (after : List ℕ) → PartBy now after 1 (length after) r → now (unwrap_or r none) ≡ drop 1 after
+after_feed now None none e after p = ⊎_elim (λ (h : length after < 1). e ∙ sym (drop_all 1 after (omega arith))) (λ (h : length after < length after). absurd (omega arith)) p.0
+after_feed now (Some x) none e after p = p.0.2 ∙ take_rest after 1
 
-pub at_the_end : (text : List ℕ) (at : ℕ) → length text ≤ at → line_end (drop at text) ≡ 0
-at_the_end text at h = prefix_len-drop_all (λ b. not (eqb b 10)) text at h
-
--- what follows the line feed, or the end
-pub past_feed : (text : List ℕ) (end after : ℕ) → after ≡ end + 1 → drop after text ≡ drop (suc end) text
-past_feed text end after e = ap (λ n. drop n text) (e ∙ add-one end)
-
-pub past_end : (text : List ℕ) (end after : ℕ) → length text ≤ end → after ≡ end → drop after text ≡ drop (suc end) text
-past_end text end after h e = drop_all after text (omega arith) ∙ sym (drop_all (suc end) text (omega arith))
-
-pub splits : (text : List ℕ) (end after : ℕ) → 0 < length text → end ≡ line_end text → end ≤ length text → drop after text ≡ drop (suc end) text → Splits text (take end text) (drop after text)
-splits text end after h e l same =
-    let long = ap length same in
-    record {
-      lines = first_line text h ∙ ap (cut text) (sym e) ∙ ap (λ rest. take end text ∷ lines_of rest) (sym same);
-      shorter = omega (arith, length-drop (suc end) text);
-      bound = omega (arith, length-drop (suc end) text, length-take-le end text l);
-    }
+-- a text that is cut at its line's end
+pub cut_there : (text : List ℕ) → 0 < length text → (found : Option ℕ) → found ≡ position (λ b. eqb b 10) text → (end : ℕ) → end ≡ unwrap_or found (length text) → (line after rest : List ℕ) → line ≡ take end text → after ≡ drop end text → rest ≡ drop 1 after
+    → lines_of text ≡ line ∷ lines_of rest
+cut_there text h found f end u line after rest l a r =
+    let e : end ≡ line_end text = u ∙ ap (λ o. unwrap_or o (length text)) f ∙ ended text in
+    let left : drop (suc (line_end text)) text ≡ rest = sym (r ∙ ap (drop 1) (a ∙ ap (λ n. drop n text) e) ∙ drop-drop 1 (line_end text) text ∙ ap (λ n. drop n text) (add-one (line_end text))) in
+    first_line text h ∙ (λ j. (ap (λ n. take n text) (sym e) ∙ sym l) j ∷ lines_of (left j))

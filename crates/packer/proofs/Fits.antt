@@ -29,10 +29,6 @@ module _ (text : List ℕ) (count bytes : ℕ) (n : count ≡ length (lines_of t
       not_too_long (Ok v) e = sym (le-ltb 16384 _ short)
       not_too_long (Err x) e = ap is_length e ∙ sym (le-ltb 16384 _ short)
 
-      pub has_bytes : (r : Result V PackFault) → MatchResult r (λ v. items v ≡ packed (lines_of text)) (λ e. e ≡ Memory) → IfOk r (λ v. items v ≡ packed (lines_of text))
-      has_bytes (Ok v) e = e
-      has_bytes (Err x) e = tt
-
       pub has_texts : (r : Result V PackFault) → MatchResult r (λ v. items v ≡ packed (lines_of text)) (λ e. e ≡ Memory) → IfOk r (λ v. texts (items v) ≡ Ok (lines_of text))
       has_texts (Ok v) e = ap texts e ∙ reads_back (lines_of text) short
       has_texts (Err x) e = tt

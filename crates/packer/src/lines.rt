@@ -1,30 +1,44 @@
 // Text, cut into lines.
-ghost use Rattle.std.specs.Prelude.{◌≡◌, ◌≤◌, [], length, MatchOption};
-ghost use Rattle.packer.specs.Lines.{line_end, lines_of, Splits};
+ghost use Rattle.std.specs.Prelude.{◌≡◌, ◌==◌, position};
+ghost use Rattle.std.specs.Iterator.{YieldsFirstRef, item_count};
+ghost use Rattle.packer.specs.Lines.{lines_of};
 
 const LINE_FEED: u8 = 10;
 
-// Where the first line ends: at the first line feed, or with the text.
-fn line_end(text: &[u8]) -> usize
-    ensures value { result ≡ line_end text.now }
-    ensures bound { result ≤ length text.now }
+// Where the first line feed stands.
+fn first_feed(text: &[u8]) -> Option<usize>
+    ensures { result ≡ position (λ b. b == 10) text.now }
 {
-    for (at, byte) in text.iter().enumerate() {
-        if *byte == LINE_FEED {
-            return at;
-        }
-    }
-    text.len()
+    text.iter().position(|byte| *byte == LINE_FEED)
 }
 
-// The first line, and what follows its line feed; nothing where no line is left.
-pub(crate) fn split_line(text: &[u8]) -> Option<(&[u8], &[u8])>
-    ensures { MatchOption result (lines_of text.now ≡ []) (λ p. Splits text.now p.0.now p.1.now) }
-{
-    if text.is_empty() {
-        return None;
+// The lines of a text that are left, one after the other.
+#[derive(Drop)]
+pub(crate) struct Lines<'a> {
+    pub(crate) left: &'a [u8],
+}
+
+impl<'a> Iterator for Lines<'a> {
+    type Item = &'a [u8];
+
+    ghost next_gives = { YieldsFirstRef (λ s. lines_of s.left.now) };
+
+    ghost remaining = { item_count (λ s. lines_of s.left.now) };
+
+    fn next(&mut self) -> Option<&'a [u8]> {
+        if self.left.is_empty() {
+            return None;
+        }
+        let end = first_feed(self.left).unwrap_or(self.left.len());
+        let (line, after) = self.left.split_at(end);
+        self.left = after.get(1..).unwrap_or(&[]);
+        Some(line)
     }
-    let end = line_end(text);
-    let after = if end < text.len() { end + 1 } else { end };
-    Some((&text[0..end], &text[after..]))
+}
+
+// The lines of a text: the pieces between its line feeds, where one at the very end opens no further line.
+pub(crate) fn lines_of(text: &[u8]) -> Lines<'_>
+    ensures { result.left.now ≡ text.now }
+{
+    Lines { left: text }
 }

@@ -8,7 +8,7 @@ ghost use Rattle.packer.specs.Pieces.{Pieces};
 ghost use Rattle.packer.specs.Packed.{number_bytes, pairs_from, all_bytes, packed};
 
 use crate::fault::*;
-use crate::lines::split_line;
+use crate::lines::lines_of;
 use index::file::MOST;
 use std::alloc::Global;
 
@@ -19,6 +19,7 @@ struct Sizes {
     bytes: usize,
 }
 
+#[tactic(auto, using(crate::proofs::Written::few))]
 fn sizes_of(lines: &[u8]) -> Sizes
     ensures count { result.count ≡ length (lines_of lines.now) }
     ensures bytes { result.bytes ≡ length (all_bytes (lines_of lines.now)) }
@@ -26,11 +27,9 @@ fn sizes_of(lines: &[u8]) -> Sizes
 {
     let mut count = 0;
     let mut bytes = 0;
-    let mut rest = lines;
-    while let Some((line, after)) = split_line(rest) {
+    for line in lines_of(lines) {
         count += 1;
         bytes += line.len();
-        rest = after;
     }
     Sizes { count, bytes }
 }
@@ -40,7 +39,7 @@ fn put_number(file: &mut Vec<u8>, number: usize) -> Result<(), PackFault>
     requires { number < 65536 }
     ensures { MatchResult result (λ _. file.new.items ≡ file.old.items ++ number_bytes number) (λ e. e ≡ Memory) }
 {
-    file.extend_from_slice(&[(number % 256) as u8, (number / 256) as u8])?;
+    file.extend_from_slice(&(number as u16).to_le_bytes())?;
     Ok(())
 }
 
@@ -50,12 +49,10 @@ fn put_pairs(file: &mut Vec<u8>, lines: &[u8], from: usize) -> Result<(), PackFa
     ensures { MatchResult result (λ _. file.new.items ≡ file.old.items ++ pairs_from from (lines_of lines.now)) (λ e. e ≡ Memory) }
 {
     let mut offset = from;
-    let mut rest = lines;
-    while let Some((line, after)) = split_line(rest) {
+    for line in lines_of(lines) {
         put_number(file, offset)?;
         put_number(file, line.len())?;
         offset += line.len();
-        rest = after;
     }
     Ok(())
 }
@@ -64,17 +61,17 @@ fn put_pairs(file: &mut Vec<u8>, lines: &[u8], from: usize) -> Result<(), PackFa
 fn put_texts(file: &mut Vec<u8>, lines: &[u8]) -> Result<(), PackFault>
     ensures { MatchResult result (λ _. file.new.items ≡ file.old.items ++ all_bytes (lines_of lines.now)) (λ e. e ≡ Memory) }
 {
-    let mut rest = lines;
-    while let Some((line, after)) = split_line(rest) {
+    for line in lines_of(lines) {
         file.extend_from_slice(line)?;
-        rest = after;
     }
     Ok(())
 }
 
 // Writes the session file of lines whose sizes are known.
 fn write_file(heap: Global, lines: &[u8], sizes: Sizes) -> Result<Vec<u8>, PackFault>
-    requires { (sizes.count ≡ length (lines_of lines.now)) × ((sizes.bytes ≡ length (all_bytes (lines_of lines.now))) × (2 + 4 * sizes.count + sizes.bytes ≤ 16384)) }
+    requires count { sizes.count ≡ length (lines_of lines.now) }
+    requires bytes { sizes.bytes ≡ length (all_bytes (lines_of lines.now)) }
+    requires fits { 2 + 4 * sizes.count + sizes.bytes ≤ 16384 }
     ensures { MatchResult result (λ v. v.items ≡ packed (lines_of lines.now)) (λ e. e ≡ Memory) }
 {
     let texts_from = 2 + 4 * sizes.count;
@@ -86,6 +83,7 @@ fn write_file(heap: Global, lines: &[u8], sizes: Sizes) -> Result<Vec<u8>, PackF
 }
 
 // The session file whose order texts are the lines.
+#[tactic(auto, using(crate::proofs::Fits::long_text, crate::proofs::Fits::long_file))]
 pub fn pack(heap: Global, lines: &[u8]) -> Result<Vec<u8>, PackFault>
     ensures too_long { is_too_long result ≡ nat_lt 16384 (length (packed (lines_of lines.now))) }
     ensures bytes { IfOk result (λ v. v.items ≡ packed (lines_of lines.now)) }

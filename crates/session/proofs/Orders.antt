@@ -1,6 +1,5 @@
 -- What one order makes of those that are left.
-use Rattle.std.proofs.Common.{◌≡◌, ℕ, ◌+◌, ◌<◌, ◌≤◌, List, [], length, get_or, drop, Ok, Err, Result, sym, ap, ◌∙◌}
-use Rattle.std.proofs.lemmas.List.{at_drop_more, at_drop_all}
+use Rattle.std.proofs.Common.{◌≡◌, ℕ, ◌+◌, List, [], ◌∷◌, Ok, Err, Result, sym, ap, ◌∙◌}
 use Rattle.refusals.specs.declared.refusal.Refusal.{Refusal}
 use Rattle.records.specs.Tables.{Tables}
 use Rattle.lines.specs.Lines.{line_of}
@@ -10,35 +9,34 @@ use Rattle.obey.specs.Prints.{values}
 use Rattle.session.specs.declared.fault.Played.{Played}
 use Rattle.session.specs.Plays.{State, state, Ended, ended, whole, broken, on_line, after_order, orders_from}
 
-module _ (texts : List (List ℕ)) (i : ℕ) (s : State) (all : Ended) (inv : orders_from (i + 1) (drop i texts) s ≡ all) where
-  pub no_more : length texts ≤ i → ended (whole s.at) s.out s.tables ≡ all
-  no_more h = sym (at_drop_all (λ l. orders_from (i + 1) l s) texts i h) ∙ inv
+-- where no order has been carried out yet
+pub all_left : (n : ℕ) → n ≡ 1 → (left texts : List (List ℕ)) → left ≡ texts → (s : State) → orders_from n left s ≡ orders_from 1 texts s
+all_left n e left texts same s j = orders_from (e j) (same j) s
+
+-- before order n
+module _ (n : ℕ) (left : List (List ℕ)) (s : State) (all : Ended) (inv : orders_from n left s ≡ all) where
+  pub no_more : left ≡ [] → ended (whole s.at) s.out s.tables ≡ all
+  no_more e = sym (ap (λ l. orders_from n l s) e) ∙ inv
 
   -- the order does r and leaves the tables t, and its line leaves `out`
-  module _ (h : i < length texts) (text : List ℕ) (is : text ≡ get_or texts i [])
+  module _ (order : ℕ) (here : order ≡ n) (text : List ℕ) (rest : List (List ℕ)) (is : left ≡ text ∷ rest)
       (r : Replied) (did : r ≡ (obeys s.phase text s.tables).done)
-      (t : Tables) (left : t ≡ (obeys s.phase text s.tables).tables)
-      (out : List ℕ) (wrote : out ≡ written_at s.out s.at (line_of (i + 1) (values r.reply))) where
-    next : after_order (i + 1) (obeys s.phase (get_or texts i []) s.tables) s (orders_from (i + 1 + 1) (drop (i + 1) texts)) ≡ all
-    next = sym (at_drop_more (λ l. orders_from (i + 1) l s) texts i [] h) ∙ inv
+      (t : Tables) (leaves : t ≡ (obeys s.phase text s.tables).tables)
+      (out : List ℕ) (wrote : out ≡ written_at s.out s.at (line_of order (values r.reply))) where
+    next : after_order order (obeys s.phase text s.tables) s (orders_from (order + 1) rest) ≡ all
+    next = (λ j. orders_from (here j) (sym is j) s) ∙ inv
 
-    does : r ≡ (obeys s.phase (get_or texts i []) s.tables).done
-    does = did ∙ ap (λ x. (obeys s.phase x s.tables).done) is
+    writes : out ≡ written_at s.out s.at (line_of order (values (obeys s.phase text s.tables).done.reply))
+    writes = wrote ∙ ap (λ (x : Replied). written_at s.out s.at (line_of order (values x.reply))) did
 
-    leaves : t ≡ (obeys s.phase (get_or texts i []) s.tables).tables
-    leaves = left ∙ ap (λ x. (obeys s.phase x s.tables).tables) is
-
-    writes : out ≡ written_at s.out s.at (line_of (i + 1) (values (obeys s.phase (get_or texts i []) s.tables).done.reply))
-    writes = wrote ∙ ap (λ (x : Replied). written_at s.out s.at (line_of (i + 1) (values x.reply))) does
-
-    line : (e : Result ℕ Refusal) → e ≡ end_at s.out s.at (line_of (i + 1) (values r.reply))
-        → on_line (i + 1) e (state r.phase t s.at out) (λ end. orders_from (i + 1 + 1) (drop (i + 1) texts) (state r.phase t end out)) ≡ all
+    line : (e : Result ℕ Refusal) → e ≡ end_at s.out s.at (line_of order (values r.reply))
+        → on_line order e (state r.phase t s.at out) (λ end. orders_from (order + 1) rest (state r.phase t end out)) ≡ all
     line e at =
-        let ends = at ∙ ap (λ (x : Replied). end_at s.out s.at (line_of (i + 1) (values x.reply))) does in
-        (λ j. on_line (i + 1) (ends j) (state (does j).phase (leaves j) s.at (writes j)) (λ end. orders_from (i + 1 + 1) (drop (i + 1) texts) (state (does j).phase (leaves j) end (writes j)))) ∙ next
+        let ends = at ∙ ap (λ (x : Replied). end_at s.out s.at (line_of order (values x.reply))) did in
+        (λ j. on_line order (ends j) (state (did j).phase (leaves j) s.at (writes j)) (λ end. orders_from (order + 1) rest (state (did j).phase (leaves j) end (writes j)))) ∙ next
 
-    pub goes_on : (end : ℕ) → Ok end ≡ end_at s.out s.at (line_of (i + 1) (values r.reply)) → orders_from (i + 1 + 1) (drop (i + 1) texts) (state r.phase t end out) ≡ all
-    goes_on end at = line (Ok end) at
+    pub goes_on : (end : ℕ) → Ok end ≡ end_at s.out s.at (line_of order (values r.reply)) → (m : ℕ) → m ≡ order + 1 → orders_from m rest (state r.phase t end out) ≡ all
+    goes_on end at m e = ap (λ k. orders_from k rest (state r.phase t end out)) e ∙ line (Ok end) at
 
-    pub stops : (cause : Refusal) → Err cause ≡ end_at s.out s.at (line_of (i + 1) (values r.reply)) → (p : Played) → p ≡ broken (i + 1) cause s.at → ended p out t ≡ all
+    pub stops : (cause : Refusal) → Err cause ≡ end_at s.out s.at (line_of order (values r.reply)) → (p : Played) → p ≡ broken order cause s.at → ended p out t ≡ all
     stops cause at p says = ap (λ x. ended x out t) says ∙ line (Err cause) at

@@ -52,9 +52,8 @@ fn play_orders(
 {
     let mut at = start;
     let mut phase = Phase::LaidOut(layout);
-    for place in 0..file.count() {
-        let order = place as u32 + 1;
-        let obeyed = carry_out(phase, file.text(place), words, nodes, descriptors, scanners);
+    for (order, text) in (1u32..).zip(file.texts()) {
+        let obeyed = carry_out(phase, text, words, nodes, descriptors, scanners);
         phase = obeyed.phase;
         match print_reply(out, at, order, obeyed.reply) {
             Ok(end) => at = end,
@@ -89,6 +88,7 @@ fn play_on(
 ) -> Played
     ensures { ended result out.new (tables words.new nodes.new descriptors.new scanners.new) ≡ plays bytes.now out.old (tables words.old nodes.old descriptors.old scanners.old) }
 {
+    // an early end is an answer that counts what was written, and no error: so `?` does not fit
     let layout = match Layout::begin(words, nodes, descriptors, scanners) {
         Ok(layout) => layout,
         Err(cause) => return ended_by(0, cause, 0),

@@ -3,5 +3,5 @@ use Rattle.std.proofs.Common.{◌≡◌, true}
 use Rattle.index.specs.Index.{all_lie, end_before}
 use Rattle.index.proofs.file.all_lie.Given as goal
 
-abbrev pub invariant-loop-order : goal.invariant-loop-order
-invariant-loop-order l = (all_lie l.bytes l.order ≡ true) × (l.end ≡ end_before l.bytes l.order)
+abbrev pub invariant-loop-pair : goal.invariant-loop-pair
+invariant-loop-pair l = (all_lie l.bytes l.pair-index ≡ true) × (l.end ≡ end_before l.bytes l.pair-index)

@@ -6,8 +6,5 @@ use Rattle.packer.proofs.pack.put_pairs.Given as goal
 
 abbrev pub invariant-loop-line : goal.invariant-loop-line
 invariant-loop-line l =
-    (vec_items l.file ++ pairs_from l.offset (lines_of l.rest) ≡ vec_items l.initial.file ++ pairs_from l.from (lines_of l.lines))
-    × (l.offset + length (all_bytes (lines_of l.rest)) < 65536)
-
-abbrev pub decreases-loop-line : goal.decreases-loop-line
-decreases-loop-line l = length l.rest
+    (vec_items l.file ++ pairs_from l.offset (lines_of l.line-iterator.left.now) ≡ vec_items l.initial.file ++ pairs_from l.from (lines_of l.lines))
+    × (l.offset + length (all_bytes (lines_of l.line-iterator.left.now)) < 65536)

@@ -1,19 +1,35 @@
-use Rattle.std.proofs.Common.{◌<◌, ◌≤◌, length, arith}
-use Rattle.index.specs.Opened.{texts_of}
-use Rattle.session.proofs.Orders.{no_more, goes_on, stops}
+use Rattle.std.proofs.Common.{◌≡◌, ℕ, [], length, ap, ◌∙◌, inl, inr, arith}
+use Rattle.std.specs.declared.ops.RangeFrom.{RangeFrom}
+use Rattle.std.specs.Iterator.Adapters.{zip_first, zip_second}
+use Rattle.index.specs.Left.{texts_left}
+use Rattle.session.proofs.Orders.{all_left, no_more, goes_on, stops}
 use Rattle.session.proofs.play.play_orders.Goals as goal
 
-pub loop-place-preserved : goal.loop-place-preserved
-loop-place-preserved c =
-    let less : c.loop-place.place < length (texts_of c.args.file) = omega (arith, c.count-place-end.ensures.value) in
-    goes_on _ _ _ _ c.loop-place.invariant less _ c.text.ensures _ c.carry_out-obeyed.ensures.answer _ c.carry_out-obeyed.ensures.after _ c.print_reply.ensures.after _ c.in-Ok.ensures.answer
+pub loop-order-init : goal.loop-order-init
+loop-order-init c =
+    let same = c.into_iter-order-iterator.ensures.into_iter_gives in
+    let one = ap (λ (r : RangeFrom ℕ). r.start) (ap zip_first same ∙ c.zip-order-items.ensures.first) in
+    let left = ap (λ x. texts_left (zip_second x)) same ∙ ap texts_left c.zip-order-items.ensures.second ∙ c.texts.ensures.texts in
+    record { count = omega (arith, ap length left); goes = all_left _ one _ _ left _ }
+
+pub loop-order-preserved : goal.loop-order-preserved
+loop-order-preserved c =
+    let steps = c.in-Some.ensures.steps in
+    record {
+      count = omega (arith, ap length steps.1);
+      goes = goes_on _ _ _ _ c.loop-order.invariant.goes _ steps.0.0 _ _ steps.1 _ c.carry_out-obeyed.ensures.answer _ c.carry_out-obeyed.ensures.after _ c.print_reply.ensures.after _ c.in-Ok.ensures.answer _ steps.0.1;
+    }
 
 pub returns-in-Err : goal.returns-in-Err
 returns-in-Err c =
-    let less : c.loop-place.place < length (texts_of c.args.file) = omega (arith, c.count-place-end.ensures.value) in
-    stops _ _ _ _ c.loop-place.invariant less _ c.text.ensures _ c.carry_out-obeyed.ensures.answer _ c.carry_out-obeyed.ensures.after _ c.print_reply.ensures.after _ c.in-Err.ensures.answer _ c.ended_by.ensures
+    let steps = c.in-Some.ensures.steps in
+    stops _ _ _ _ c.loop-order.invariant.goes _ steps.0.0 _ _ steps.1 _ c.carry_out-obeyed.ensures.answer _ c.carry_out-obeyed.ensures.after _ c.print_reply.ensures.after _ c.in-Err.ensures.answer _ c.ended_by.ensures
 
 pub returns : goal.returns
 returns c =
-    let all : length (texts_of c.args.file) ≤ c.loop-place.place = omega (arith, c.count-place-end.ensures.value) in
-    no_more _ _ _ _ c.loop-place.invariant all
+    let none : texts_left (zip_second c.loop-order.order-iterator) ≡ [] =
+    elim c.in-None.ensures.steps [
+      | inl p ↦ let all = ap length c.texts.ensures.texts in let few = c.texts.ensures.few in absurd (omega (arith, p.1.0))
+      | inr p ↦ p.1.0
+    ] in
+    no_more _ _ _ _ c.loop-order.invariant.goes none
