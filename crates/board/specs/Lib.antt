@@ -1,4 +1,6 @@
+pub mod Rooms
 pub mod Numbers
+pub mod Views
 pub mod Kinds
 pub mod Begins
 pub mod Takes

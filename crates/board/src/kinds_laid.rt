@@ -1,6 +1,5 @@
 // The kinds of the trays that are laid, packed into one number: four bits for each tray, tray 0 lowest.
 ghost use Rattle.std.specs.Prelude.{◌≡◌, ◌+◌, ◌*◌, ◌^◌, ◌<◌, ◌≤◌};
-ghost use Rattle.board.specs.Numbers.{numbers};
 ghost use Rattle.board.specs.Kinds.{kind_of};
 
 use crate::board::{Board, Layout, Running};
@@ -20,7 +19,7 @@ pub(crate) fn with_kind(kinds: u128, tray: u32, kind: u32) -> u128
 impl Board {
     // The kind number of a tray: none where it is not laid.
     pub(crate) fn kind_of(&self, tray: u32) -> Option<u32>
-        ensures { result ≡ kind_of (numbers self.now) tray }
+        ensures { result ≡ kind_of self.now tray }
     {
         if tray >= self.trays {
             return None;
@@ -32,7 +31,7 @@ impl Board {
 impl<K> Layout<K> {
     // The kind number of a tray: none where it is not laid.
     pub fn kind_of(&self, tray: u32) -> Option<u32>
-        ensures { result ≡ kind_of (numbers self.now.board) tray }
+        ensures { result ≡ kind_of self.now tray }
     {
         self.board.kind_of(tray)
     }
@@ -41,7 +40,7 @@ impl<K> Layout<K> {
 impl<K> Running<K> {
     // The kind number of a tray: none where it is not laid.
     pub fn kind_of(&self, tray: u32) -> Option<u32>
-        ensures { result ≡ kind_of (numbers self.now.board) tray }
+        ensures { result ≡ kind_of self.now tray }
     {
         self.board.kind_of(tray)
     }

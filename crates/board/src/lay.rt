@@ -1,9 +1,9 @@
 // Laying a tray: it takes the next tray number and is opened by its kind.
 ghost use Rattle.std.specs.Prelude.{◌≡◌, ◌<◌, ◌≤◌};
 ghost use Rattle.records.specs.Tables.{tables};
-ghost use Rattle.board.specs.Numbers.{numbers, fits};
+ghost use Rattle.board.specs.Numbers.{fits};
 ghost use Rattle.board.specs.Laws.{Laying};
-ghost use Rattle.board.specs.Lays.{lays_kind, lays};
+ghost use Rattle.board.specs.Lays.{lays};
 
 use crate::board::{Board, Layout, MOST_TRAYS, SCANNERS, TRAY_WORDS};
 use crate::kinds_laid::{LAST_KIND, with_kind};
@@ -21,12 +21,12 @@ impl Board {
         descriptors: &[Descriptor],
         scanners: &[Scanner],
     ) -> bool
-        ensures { result ≡ fits (numbers self.now) (tables words.now nodes.now descriptors.now scanners.now) }
+        ensures { result ≡ fits self.now (tables words.now nodes.now descriptors.now scanners.now) }
     {
         words.len() == TRAY_WORDS
             && scanners.len() == SCANNERS
-            && nodes.len() == self.node_room as usize
-            && descriptors.len() == self.descriptor_room as usize
+            && nodes.len() == self.nodes.room as usize
+            && descriptors.len() == self.descriptors.room as usize
     }
 }
 
@@ -40,47 +40,32 @@ impl<K: TrayKind> Layout<K> {
         scanners: &[Scanner],
         kind: u32,
     ) -> Result<u32, Refusal>
-        ensures answer { result ≡ (lays K.TrayKind.plan (numbers self.old.board) (tables words.old nodes.old descriptors.now scanners.now) kind).answer }
-        ensures board { numbers self.new.board ≡ (lays K.TrayKind.plan (numbers self.old.board) (tables words.old nodes.old descriptors.now scanners.now) kind).board }
-        ensures after { tables words.new nodes.new descriptors.now scanners.now ≡ (lays K.TrayKind.plan (numbers self.old.board) (tables words.old nodes.old descriptors.now scanners.now) kind).tables }
-        ensures law { Laying kind (numbers self.old.board) (numbers self.new.board) (tables words.old nodes.old descriptors.now scanners.now) (tables words.new nodes.new descriptors.now scanners.now) result }
+        ensures answer { result ≡ (lays K.TrayKind.plan self.old (tables words.old nodes.old descriptors.now scanners.now) kind).answer }
+        ensures board { self.new ≡ (lays K.TrayKind.plan self.old (tables words.old nodes.old descriptors.now scanners.now) kind).board }
+        ensures after { tables words.new nodes.new descriptors.now scanners.now ≡ (lays K.TrayKind.plan self.old (tables words.old nodes.old descriptors.now scanners.now) kind).tables }
+        ensures law { Laying kind self.old self.new (tables words.old nodes.old descriptors.now scanners.now) (tables words.new nodes.new descriptors.now scanners.now) result }
     {
         K::show_points();
-        self.lay_kind(words, nodes, descriptors, scanners, kind.min(LAST_KIND))
-    }
-
-    // The same for a kind number that the board can keep.
-    fn lay_kind(
-        &mut self,
-        words: &mut [u32],
-        nodes: &mut [Node],
-        descriptors: &[Descriptor],
-        scanners: &[Scanner],
-        kind: u32,
-    ) -> Result<u32, Refusal>
-        requires { kind ≤ 15 }
-        ensures answer { result ≡ (lays_kind (K.TrayKind.plan kind) kind (numbers self.old.board) (tables words.old nodes.old descriptors.now scanners.now)).answer }
-        ensures board { numbers self.new.board ≡ (lays_kind (K.TrayKind.plan kind) kind (numbers self.old.board) (tables words.old nodes.old descriptors.now scanners.now)).board }
-        ensures after { tables words.new nodes.new descriptors.now scanners.now ≡ (lays_kind (K.TrayKind.plan kind) kind (numbers self.old.board) (tables words.old nodes.old descriptors.now scanners.now)).tables }
-    {
-        let tray = self.board.trays;
-        if !self.board.fits(words, nodes, descriptors, scanners) {
+        let kind = kind.min(LAST_KIND);
+        let board = &mut self.board;
+        let tray = board.trays;
+        if !board.fits(words, nodes, descriptors, scanners) {
             return Err(Refusal::TableLength);
         }
         if tray >= MOST_TRAYS {
             return Err(Refusal::TraysFull);
         }
         let node = if K::takes_node(kind) {
-            self.board.take_node(nodes)?
+            board.take_node(nodes)?
         } else {
             0
         };
         let opening = K::opening(kind, node);
         words[2 * tray as usize] = opening.first;
         words[2 * tray as usize + 1] = opening.second;
-        let kinds = with_kind(self.board.kinds, tray, kind);
-        self.board.trays = tray + 1;
-        self.board.kinds = kinds;
+        let kinds = with_kind(board.kinds, tray, kind);
+        board.trays = tray + 1;
+        board.kinds = kinds;
         Ok(tray)
     }
 }

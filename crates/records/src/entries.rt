@@ -1,14 +1,14 @@
 // The records of the node table and of the descriptor table.
 
 // A node of a tray: the word that leads on from it, and a parcel's number.
-#[derive(Clone, Copy)]
+#[derive(Clone, Copy, PartialEq, Eq, Debug)]
 pub struct Node {
     pub next: u32,
     pub parcel: u32,
 }
 
 // One compare-and-swap: `old` is to become `new` at an address.
-#[derive(Clone, Copy)]
+#[derive(Clone, Copy, PartialEq, Eq, Debug)]
 pub struct Swap {
     pub address: u32,
     pub old: u32,
@@ -17,7 +17,7 @@ pub struct Swap {
 
 // A two-word swap: both swaps take effect, or neither. The result is 1 while undecided, 2 after success, 3 where the
 // second swap failed, or the number of one of the descriptor's marks: decided by that mark.
-#[derive(Clone, Copy)]
+#[derive(Clone, Copy, PartialEq, Eq, Debug)]
 pub struct Descriptor {
     pub first: Swap,
     pub second: Swap,

@@ -3,7 +3,7 @@ ghost use Rattle.std.specs.Prelude.{◌≡◌};
 ghost use Rattle.records.specs.Looks.{look_number};
 
 // What a request asks for.
-#[derive(Clone, Copy, PartialEq, Eq)]
+#[derive(Clone, Copy, PartialEq, Eq, Debug)]
 pub enum Wish {
     Put { tray: u32, parcel: u32 },
     Take { tray: u32 },
@@ -21,7 +21,7 @@ pub enum Look {
 }
 
 // `last` is the number of the last request, 0 before the first, and `heard` the highest number whose acknowledgement was sent.
-#[derive(Clone, Copy)]
+#[derive(Clone, Copy, PartialEq, Eq, Debug)]
 pub struct Scanner {
     pub last: u32,
     pub heard: u32,
