@@ -1,12 +1,12 @@
 // Laying a tray: it takes the next tray number and is opened by its kind.
-ghost use Rattle.std.specs.Prelude.{◌≡◌, ◌<◌, ◌≤◌};
+ghost use Rattle.std.specs.Prelude.{◌≡◌};
 ghost use Rattle.records.specs.Tables.{tables};
 ghost use Rattle.board.specs.Numbers.{fits};
 ghost use Rattle.board.specs.Laws.{Laying};
 ghost use Rattle.board.specs.Lays.{lays};
 
 use crate::board::{Board, Layout, MOST_TRAYS, SCANNERS, TRAY_WORDS};
-use crate::kinds_laid::{LAST_KIND, with_kind};
+use crate::kinds_laid::LAST_KIND;
 use kinds::kind::TrayKind;
 use records::entries::{Descriptor, Node};
 use records::scanner::Scanner;
@@ -63,9 +63,7 @@ impl<K: TrayKind> Layout<K> {
         let opening = K::opening(kind, node);
         words[2 * tray as usize] = opening.first;
         words[2 * tray as usize + 1] = opening.second;
-        let kinds = with_kind(board.kinds, tray, kind);
-        board.trays = tray + 1;
-        board.kinds = kinds;
+        board.add_tray(kind);
         Ok(tray)
     }
 }

@@ -5,6 +5,6 @@ pub mod begin;
 pub mod board;
 pub mod kinds_laid;
 pub mod lay;
-pub mod room;
+mod room;
 pub mod start;
 mod take_places;

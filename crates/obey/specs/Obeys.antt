@@ -6,7 +6,7 @@ use Rattle.records.specs.Tables.{Tables}
 use Rattle.kinds.specs.Plans.{Plan, pick}
 use Rattle.queue.specs.Queue.{queue_plan}
 use Rattle.stack.specs.Stack.{stack_plan}
-use Rattle.board.specs.Numbers.{Numbers, numbers}
+use Rattle.board.specs.Numbers.{Numbers}
 use Rattle.board.specs.Lays.{Laid, lays}
 use Rattle.board.specs.Phases.{started}
 use Rattle.orders.specs.declared.order.Order.{Order}
@@ -24,8 +24,8 @@ pub data Phased : Type 0 where
   running : Numbers → Phased
 
 abbrev pub phased : Phase → Phased
-phased (LaidOut l) = laid_out (numbers l.board)
-phased (Running r) = running (numbers r.board)
+phased (LaidOut n) = laid_out n
+phased (Running n) = running n
 
 -- the board after an order, and the order's answer
 pub record Replied : Type 0 where

@@ -1,6 +1,5 @@
 // One order, carried out on the board.
 ghost use Rattle.std.specs.Prelude.{◌≡◌, Err};
-ghost use Rattle.refusals.specs.declared.refusal.Refusal.TheVariants.{OutOfPhase};
 ghost use Rattle.records.specs.Tables.{tables};
 ghost use Rattle.obey.specs.Obeys.{phased, replied, lays_in, starts_in, obeys};
 
@@ -12,13 +11,15 @@ use records::entries::{Descriptor, Node};
 use records::scanner::Scanner;
 use refusals::refusal::Refusal;
 
-// An order that does not belong to this phase.
-fn out_of_phase(phase: Phase) -> Obeyed
-    ensures { replied result ≡ record { phase = phased phase; reply = Err OutOfPhase } }
-{
-    Obeyed {
-        phase,
-        reply: Err(Refusal::OutOfPhase),
+impl Obeyed {
+    // A refused order, and the board in the phase that it was in.
+    fn refused(phase: Phase, refusal: Refusal) -> Obeyed
+        ensures { result ≡ record { phase = phase; reply = Err refusal } }
+    {
+        Obeyed {
+            phase,
+            reply: Err(refusal),
+        }
     }
 }
 
@@ -36,16 +37,15 @@ fn lay_tray(
 {
     match phase {
         Phase::LaidOut(mut layout) => {
-            let reply = match layout.lay(words, nodes, descriptors, scanners, kind) {
-                Ok(tray) => Ok(Reply::Laid(tray)),
-                Err(refusal) => Err(refusal),
-            };
+            let reply = layout
+                .lay(words, nodes, descriptors, scanners, kind)
+                .map(Reply::Laid);
             Obeyed {
                 phase: Phase::LaidOut(layout),
                 reply,
             }
         }
-        started => out_of_phase(started),
+        started => Obeyed::refused(started, Refusal::OutOfPhase),
     }
 }
 
@@ -59,12 +59,9 @@ fn start_board(phase: Phase, crew: u32) -> Obeyed
                 phase: Phase::Running(running),
                 reply: Ok(Reply::Started),
             },
-            Err(back) => Obeyed {
-                phase: Phase::LaidOut(back.0),
-                reply: Err(back.1),
-            },
+            Err((layout, refusal)) => Obeyed::refused(Phase::LaidOut(layout), refusal),
         },
-        running => out_of_phase(running),
+        running => Obeyed::refused(running, Refusal::OutOfPhase),
     }
 }
 
@@ -84,9 +81,6 @@ pub fn carry_out(
         Ok(Order::LayQueue) => lay_tray(phase, QUEUE, words, nodes, descriptors, scanners),
         Ok(Order::LayStack) => lay_tray(phase, STACK, words, nodes, descriptors, scanners),
         Ok(Order::Start { crew }) => start_board(phase, crew),
-        Err(refusal) => Obeyed {
-            phase,
-            reply: Err(refusal),
-        },
+        Err(refusal) => Obeyed::refused(phase, refusal),
     }
 }

@@ -5,7 +5,6 @@ ghost use Rattle.lines.specs.Lines.{line_of};
 ghost use Rattle.lines.specs.Places.{end_at, written_at};
 ghost use Rattle.records.specs.Tables.{tables};
 ghost use Rattle.index.specs.Opened.{texts_of};
-ghost use Rattle.board.specs.Numbers.{numbers};
 ghost use Rattle.obey.specs.Obeys.{laid_out};
 ghost use Rattle.session.specs.Laws.{Shows};
 ghost use Rattle.session.specs.Plays.{state, ended, broken, damaged, orders_from, plays, session_of};
@@ -48,7 +47,7 @@ fn play_orders(
     descriptors: &[Descriptor],
     scanners: &[Scanner],
 ) -> Played
-    ensures { ended result out.new (tables words.new nodes.new descriptors.now scanners.now) ≡ orders_from 1 (texts_of file.entry) (state (laid_out (numbers layout.board)) (tables words.old nodes.old descriptors.now scanners.now) start out.old) }
+    ensures { ended result out.new (tables words.new nodes.new descriptors.now scanners.now) ≡ orders_from 1 (texts_of file.entry) (state (laid_out layout) (tables words.old nodes.old descriptors.now scanners.now) start out.old) }
 {
     let mut at = start;
     let mut phase = Phase::LaidOut(layout);

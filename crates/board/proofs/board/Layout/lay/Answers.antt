@@ -1,7 +1,6 @@
 -- The law follows from what `lays` is and from what the kinds' openings write.
-use Rattle.std.proofs.Common.{◌*◌, ◌^◌, ◌<◌, subst, rules}
+use Rattle.std.proofs.Common.{◌*◌, ◌^◌, ◌<◌, rules}
 use Rattle.records.specs.Tables.{tables}
-use Rattle.board.specs.Numbers.{Numbers}
 use Rattle.board.specs.Lays.{lays}
 use Rattle.board.proofs.Laying.{laid_lawful, equals_laid}
 use Rattle.board.proofs.board.Layout.lay.Goals as goal
