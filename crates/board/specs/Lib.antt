@@ -7,3 +7,4 @@ pub mod Takes
 pub mod Lays
 pub mod Laws
 pub mod Phases
+pub mod Lent

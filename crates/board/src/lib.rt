@@ -7,4 +7,5 @@ pub mod kinds_laid;
 pub mod lay;
 mod room;
 pub mod start;
+pub mod tables;
 mod take_places;

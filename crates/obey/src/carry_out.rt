@@ -1,14 +1,13 @@
 // One order, carried out on the board.
 ghost use Rattle.std.specs.Prelude.{◌≡◌, Err};
-ghost use Rattle.records.specs.Tables.{tables};
+ghost use Rattle.board.specs.Lent.{held, SameTables};
 ghost use Rattle.obey.specs.Obeys.{phased, replied, lays_in, starts_in, obeys};
 
 use crate::kinds_used::{QUEUE, STACK};
 use crate::phase::{Obeyed, Phase, Reply};
+use board::tables::LentTables;
 use orders::order::Order;
 use orders::read_order;
-use records::entries::{Descriptor, Node};
-use records::scanner::Scanner;
 use refusals::refusal::Refusal;
 
 impl Obeyed {
@@ -24,22 +23,14 @@ impl Obeyed {
 }
 
 // Lays a tray while the board is laid out.
-fn lay_tray(
-    phase: Phase,
-    kind: u32,
-    words: &mut [u32],
-    nodes: &mut [Node],
-    descriptors: &[Descriptor],
-    scanners: &[Scanner],
-) -> Obeyed
-    ensures answer { replied result ≡ (lays_in (phased phase) kind (tables words.old nodes.old descriptors.now scanners.now)).done }
-    ensures after { tables words.new nodes.new descriptors.now scanners.now ≡ (lays_in (phased phase) kind (tables words.old nodes.old descriptors.now scanners.now)).tables }
+fn lay_tray(phase: Phase, kind: u32, tables: &mut LentTables<'_>) -> Obeyed
+    ensures answer { replied result ≡ (lays_in (phased phase) kind (held tables.old)).done }
+    ensures after { held tables.new ≡ (lays_in (phased phase) kind (held tables.old)).tables }
+    ensures same { SameTables tables.old tables.new }
 {
     match phase {
         Phase::LaidOut(mut layout) => {
-            let reply = layout
-                .lay(words, nodes, descriptors, scanners, kind)
-                .map(Reply::Laid);
+            let reply = layout.lay(tables, kind).map(Reply::Laid);
             Obeyed {
                 phase: Phase::LaidOut(layout),
                 reply,
@@ -66,20 +57,14 @@ fn start_board(phase: Phase, crew: u32) -> Obeyed
 }
 
 // Carries out the order that the text says.
-pub fn carry_out(
-    phase: Phase,
-    text: &[u8],
-    words: &mut [u32],
-    nodes: &mut [Node],
-    descriptors: &[Descriptor],
-    scanners: &[Scanner],
-) -> Obeyed
-    ensures answer { replied result ≡ (obeys (phased phase) text.now (tables words.old nodes.old descriptors.now scanners.now)).done }
-    ensures after { tables words.new nodes.new descriptors.now scanners.now ≡ (obeys (phased phase) text.now (tables words.old nodes.old descriptors.now scanners.now)).tables }
+pub fn carry_out(phase: Phase, text: &[u8], tables: &mut LentTables<'_>) -> Obeyed
+    ensures answer { replied result ≡ (obeys (phased phase) text.now (held tables.old)).done }
+    ensures after { held tables.new ≡ (obeys (phased phase) text.now (held tables.old)).tables }
+    ensures same { SameTables tables.old tables.new }
 {
     match read_order(text) {
-        Ok(Order::LayQueue) => lay_tray(phase, QUEUE, words, nodes, descriptors, scanners),
-        Ok(Order::LayStack) => lay_tray(phase, STACK, words, nodes, descriptors, scanners),
+        Ok(Order::LayQueue) => lay_tray(phase, QUEUE, tables),
+        Ok(Order::LayStack) => lay_tray(phase, STACK, tables),
         Ok(Order::Start { crew }) => start_board(phase, crew),
         Err(refusal) => Obeyed::refused(phase, refusal),
     }

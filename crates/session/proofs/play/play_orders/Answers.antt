@@ -1,4 +1,4 @@
-use Rattle.std.proofs.Common.{◌<◌, ◌≤◌, length, arith}
+use Rattle.std.proofs.Common.{◌<◌, ◌≤◌, length, arith, rules}
 use Rattle.index.specs.Opened.{texts_of}
 use Rattle.session.proofs.Orders.{no_more, goes_on, stops}
 use Rattle.session.proofs.play.play_orders.Goals as goal
@@ -6,14 +6,17 @@ use Rattle.session.proofs.play.play_orders.Goals as goal
 pub loop-place-preserved : goal.loop-place-preserved
 loop-place-preserved c =
     let less : c.loop-place.place < length (texts_of c.args.file) = omega (arith, c.count-place-end.ensures.value) in
-    goes_on _ _ _ _ c.loop-place.invariant less _ c.text.ensures _ c.carry_out-obeyed.ensures.answer _ c.carry_out-obeyed.ensures.after _ c.print_reply.ensures.after _ c.in-Ok.ensures.answer
+    record {
+      so_far = goes_on _ _ _ _ c.loop-place.invariant.so_far less _ c.text.ensures _ c.carry_out-obeyed.ensures.answer _ c.carry_out-obeyed.ensures.after _ c.print_reply.ensures.after _ c.in-Ok.ensures.answer;
+      same = search rules;
+    }
 
-pub returns-in-Err : goal.returns-in-Err
-returns-in-Err c =
+pub returns-in-Err-clause-answer : goal.returns-in-Err-clause-answer
+returns-in-Err-clause-answer c =
     let less : c.loop-place.place < length (texts_of c.args.file) = omega (arith, c.count-place-end.ensures.value) in
-    stops _ _ _ _ c.loop-place.invariant less _ c.text.ensures _ c.carry_out-obeyed.ensures.answer _ c.carry_out-obeyed.ensures.after _ c.print_reply.ensures.after _ c.in-Err.ensures.answer _ c.ended_by.ensures
+    stops _ _ _ _ c.loop-place.invariant.so_far less _ c.text.ensures _ c.carry_out-obeyed.ensures.answer _ c.carry_out-obeyed.ensures.after _ c.print_reply.ensures.after _ c.in-Err.ensures.answer _ c.ended_by.ensures
 
-pub returns : goal.returns
-returns c =
+pub returns-clause-answer : goal.returns-clause-answer
+returns-clause-answer c =
     let all : length (texts_of c.args.file) ≤ c.loop-place.place = omega (arith, c.count-place-end.ensures.value) in
-    no_more _ _ _ _ c.loop-place.invariant all
+    no_more _ _ _ _ c.loop-place.invariant.so_far all

@@ -1,14 +1,14 @@
 -- The law follows from what `lays` is and from what the kinds' openings write.
 use Rattle.std.proofs.Common.{◌*◌, ◌^◌, ◌<◌, rules}
-use Rattle.records.specs.Tables.{tables}
 use Rattle.board.specs.Lays.{lays}
+use Rattle.board.specs.Lent.{held}
 use Rattle.board.proofs.Laying.{laid_lawful, equals_laid}
 use Rattle.board.proofs.board.Layout.lay.Goals as goal
 
 pub returns-clause-law : goal.returns-clause-law
 returns-clause-law g c =
     let n = c.args.self.now in
-    let t = tables c.args.words.now c.args.nodes.now c.args.descriptors.now c.args.scanners.now in
+    let t = held c.args.tables.now in
     let plan = g.K.TrayKind.plan in
     let laid = lays plan n t c.args.kind in
     let digits : n.kinds < 2 ^ (4 * n.trays) = rw (← c.self.view_is, ← c.board.view_is) c.board.invariant.kind_digits in

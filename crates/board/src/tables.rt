@@ -1,0 +1,11 @@
+// The four tables, lent together to a call that writes tray words and nodes, and only reads the rest.
+use records::entries::{Descriptor, Node};
+use records::scanner::Scanner;
+
+#[derive(Drop)]
+pub struct LentTables<'a> {
+    pub words: &'a mut [u32],
+    pub nodes: &'a mut [Node],
+    pub descriptors: &'a [Descriptor],
+    pub scanners: &'a [Scanner],
+}
