@@ -18,26 +18,9 @@ use Rattle.obey.specs.declared.phase.Reply.{Reply}
 use Rattle.obey.specs.declared.phase.Reply.TheVariants.{Laid as LaidTray, Started}
 use Rattle.obey.specs.declared.phase.Obeyed.{Obeyed}
 
--- the board by its phase and its numbers
-pub data Phased : Type 0 where
-  laid_out : Numbers → Phased
-  running : Numbers → Phased
-
-abbrev pub phased : Phase → Phased
-phased (LaidOut n) = laid_out n
-phased (Running n) = running n
-
--- the board after an order, and the order's answer
-pub record Replied : Type 0 where
-  pub phase : Phased
-  pub reply : Result Reply Refusal
-
-abbrev pub replied : Obeyed → Replied
-replied o = record { phase = phased o.phase; reply = o.reply }
-
--- that, and the tables
+-- an order's answer with the board after it, and the tables
 pub record Done : Type 0 where
-  pub done : Replied
+  pub done : Obeyed
   pub tables : Tables
 
 -- the kinds of tray that the program has: number 0 is the queue, and 1 the stack
@@ -49,27 +32,27 @@ laid_reply (Ok tray) = Ok (LaidTray tray)
 laid_reply (Err e) = Err e
 
 abbrev pub after_lay : Laid → Done
-after_lay l = record { done = record { phase = laid_out l.board; reply = laid_reply l.answer }; tables = l.tables }
+after_lay l = record { done = record { phase = LaidOut l.board; reply = laid_reply l.answer }; tables = l.tables }
 
 -- trays are laid before the start
-abbrev pub lays_in : Phased → ℕ → Tables → Done
-lays_in (laid_out n) kind t = after_lay (lays depot_plan n t kind)
-lays_in (running n) kind t = record { done = record { phase = running n; reply = Err OutOfPhase }; tables = t }
+abbrev pub lays_in : Phase → ℕ → Tables → Done
+lays_in (LaidOut n) kind t = after_lay (lays depot_plan n t kind)
+lays_in (Running n) kind t = record { done = record { phase = Running n; reply = Err OutOfPhase }; tables = t }
 
-abbrev pub after_start : Result Numbers (Numbers × Refusal) → Replied
-after_start (Ok n) = record { phase = running n; reply = Ok Started }
-after_start (Err e) = record { phase = laid_out e.0; reply = Err e.1 }
+abbrev pub after_start : Result Numbers (Numbers × Refusal) → Obeyed
+after_start (Ok n) = record { phase = Running n; reply = Ok Started }
+after_start (Err e) = record { phase = LaidOut e.0; reply = Err e.1 }
 
 -- and the board starts once
-abbrev pub starts_in : Phased → ℕ → Replied
-starts_in (laid_out n) crew = after_start (started n crew)
-starts_in (running n) crew = record { phase = running n; reply = Err OutOfPhase }
+abbrev pub starts_in : Phase → ℕ → Obeyed
+starts_in (LaidOut n) crew = after_start (started n crew)
+starts_in (Running n) crew = record { phase = Running n; reply = Err OutOfPhase }
 
-abbrev pub does : Phased → Result Order Refusal → Tables → Done
+abbrev pub does : Phase → Result Order Refusal → Tables → Done
 does p (Ok LayQueue) t = lays_in p 0 t
 does p (Ok LayStack) t = lays_in p 1 t
 does p (Ok (Start crew)) t = record { done = starts_in p crew; tables = t }
 does p (Err e) t = record { done = record { phase = p; reply = Err e }; tables = t }
 
-abbrev pub obeys : Phased → List ℕ → Tables → Done
+abbrev pub obeys : Phase → List ℕ → Tables → Done
 obeys p text t = does p (order_of text) t

@@ -1,7 +1,7 @@
 // One order, carried out on the board.
 ghost use Rattle.std.specs.Prelude.{◌≡◌, Err};
 ghost use Rattle.board.specs.Lent.{held, SameTables};
-ghost use Rattle.obey.specs.Obeys.{phased, replied, lays_in, starts_in, obeys};
+ghost use Rattle.obey.specs.Obeys.{lays_in, starts_in, obeys};
 
 use crate::kinds_used::{QUEUE, STACK};
 use crate::phase::{Obeyed, Phase, Reply};
@@ -24,8 +24,8 @@ impl Obeyed {
 
 // Lays a tray while the board is laid out.
 fn lay_tray(phase: Phase, kind: u32, tables: &mut LentTables<'_>) -> Obeyed
-    ensures answer { replied result ≡ (lays_in (phased phase) kind (held tables.old)).done }
-    ensures after { held tables.new ≡ (lays_in (phased phase) kind (held tables.old)).tables }
+    ensures answer { result ≡ (lays_in phase kind (held tables.old)).done }
+    ensures after { held tables.new ≡ (lays_in phase kind (held tables.old)).tables }
     ensures same { SameTables tables.old tables.new }
 {
     match phase {
@@ -42,7 +42,7 @@ fn lay_tray(phase: Phase, kind: u32, tables: &mut LentTables<'_>) -> Obeyed
 
 // Starts the board while it is laid out.
 fn start_board(phase: Phase, crew: u32) -> Obeyed
-    ensures { replied result ≡ starts_in (phased phase) crew }
+    ensures { result ≡ starts_in phase crew }
 {
     match phase {
         Phase::LaidOut(layout) => match layout.start(crew) {
@@ -58,8 +58,8 @@ fn start_board(phase: Phase, crew: u32) -> Obeyed
 
 // Carries out the order that the text says.
 pub fn carry_out(phase: Phase, text: &[u8], tables: &mut LentTables<'_>) -> Obeyed
-    ensures answer { replied result ≡ (obeys (phased phase) text.now (held tables.old)).done }
-    ensures after { held tables.new ≡ (obeys (phased phase) text.now (held tables.old)).tables }
+    ensures answer { result ≡ (obeys phase text.now (held tables.old)).done }
+    ensures after { held tables.new ≡ (obeys phase text.now (held tables.old)).tables }
     ensures same { SameTables tables.old tables.new }
 {
     match read_order(text) {

@@ -5,7 +5,8 @@ use Rattle.refusals.specs.declared.refusal.Refusal.{Refusal}
 use Rattle.records.specs.Tables.{Tables}
 use Rattle.lines.specs.Lines.{line_of}
 use Rattle.lines.specs.Places.{end_at, written_at}
-use Rattle.obey.specs.Obeys.{Replied, obeys}
+use Rattle.obey.specs.declared.phase.Obeyed.{Obeyed}
+use Rattle.obey.specs.Obeys.{obeys}
 use Rattle.obey.specs.Prints.{values}
 use Rattle.session.specs.declared.fault.Played.{Played}
 use Rattle.session.specs.Plays.{State, state, Ended, ended, whole, broken, on_line, after_order, orders_from}
@@ -16,7 +17,7 @@ module _ (texts : List (List ℕ)) (i : ℕ) (s : State) (all : Ended) (inv : or
 
   -- the order does r and leaves the tables t, and its line leaves `out`
   module _ (h : i < length texts) (text : List ℕ) (is : text ≡ get_or texts i [])
-      (r : Replied) (did : r ≡ (obeys s.phase text s.tables).done)
+      (r : Obeyed) (did : r ≡ (obeys s.phase text s.tables).done)
       (t : Tables) (left : t ≡ (obeys s.phase text s.tables).tables)
       (out : List ℕ) (wrote : out ≡ written_at s.out s.at (line_of (i + 1) (values r.reply))) where
     next : after_order (i + 1) (obeys s.phase (get_or texts i []) s.tables) s (orders_from (i + 1 + 1) (drop (i + 1) texts)) ≡ all
@@ -29,12 +30,12 @@ module _ (texts : List (List ℕ)) (i : ℕ) (s : State) (all : Ended) (inv : or
     leaves = left ∙ ap (λ x. (obeys s.phase x s.tables).tables) is
 
     writes : out ≡ written_at s.out s.at (line_of (i + 1) (values (obeys s.phase (get_or texts i []) s.tables).done.reply))
-    writes = wrote ∙ ap (λ (x : Replied). written_at s.out s.at (line_of (i + 1) (values x.reply))) does
+    writes = wrote ∙ ap (λ (x : Obeyed). written_at s.out s.at (line_of (i + 1) (values x.reply))) does
 
     line : (e : Result ℕ Refusal) → e ≡ end_at s.out s.at (line_of (i + 1) (values r.reply))
         → on_line (i + 1) e (state r.phase t s.at out) (λ end. orders_from (i + 1 + 1) (drop (i + 1) texts) (state r.phase t end out)) ≡ all
     line e at =
-        let ends = at ∙ ap (λ (x : Replied). end_at s.out s.at (line_of (i + 1) (values x.reply))) does in
+        let ends = at ∙ ap (λ (x : Obeyed). end_at s.out s.at (line_of (i + 1) (values x.reply))) does in
         (λ j. on_line (i + 1) (ends j) (state (does j).phase (leaves j) s.at (writes j)) (λ end. orders_from (i + 1 + 1) (drop (i + 1) texts) (state (does j).phase (leaves j) end (writes j)))) ∙ next
 
     pub goes_on : (end : ℕ) → Ok end ≡ end_at s.out s.at (line_of (i + 1) (values r.reply)) → orders_from (i + 1 + 1) (drop (i + 1) texts) (state r.phase t end out) ≡ all

@@ -6,7 +6,6 @@ ghost use Rattle.lines.specs.Places.{end_at, written_at};
 ghost use Rattle.records.specs.Tables.{tables};
 ghost use Rattle.index.specs.Opened.{texts_of};
 ghost use Rattle.board.specs.Lent.{held, SameTables};
-ghost use Rattle.obey.specs.Obeys.{laid_out};
 ghost use Rattle.session.specs.Laws.{Shows};
 ghost use Rattle.session.specs.Plays.{state, ended, broken, damaged, orders_from, plays, session_of};
 
@@ -46,7 +45,7 @@ fn play_orders(
     start: usize,
     tables: &mut LentTables<'_>,
 ) -> Played
-    ensures answer { ended result out.new (held tables.new) ≡ orders_from 1 (texts_of file.entry) (state (laid_out layout) (held tables.old) start out.old) }
+    ensures answer { ended result out.new (held tables.new) ≡ orders_from 1 (texts_of file.entry) (state (Phase.LaidOut layout) (held tables.old) start out.old) }
     ensures same { SameTables tables.old tables.new }
 {
     let mut at = start;
