@@ -1,6 +1,7 @@
 -- The places of one table: how many there are, and how many of them are taken.
-use Rattle.std.specs.Prelude.{ℕ, ◌+◌, cond, Ok, Err, Result}
+use Rattle.std.specs.Prelude.{ℕ, ◌+◌, cond, ◌&&◌, Ok, Err, Result, nat_le}
 use Rattle.refusals.specs.declared.refusal.Refusal.{Refusal}
+use Rattle.refusals.specs.declared.refusal.Refusal.TheVariants.{TableLength}
 use Rattle.places.specs.Places.{has_place, taken_after}
 
 pub record Counts : Type 0 where
@@ -10,6 +11,10 @@ pub record Counts : Type 0 where
 -- the counts of a table of which no place is taken
 abbrev pub untaken : ℕ → Counts
 untaken room = record { room = room; taken = 0 }
+
+-- those of a table of this length: words name 1 to 4,095 places
+abbrev pub room_of : ℕ → Result Counts Refusal
+room_of length = cond (nat_le 1 length && nat_le length 4095) (Ok (untaken length)) (Err TableLength)
 
 -- the counts after the next place was taken, if one was left
 abbrev pub with_place : Counts → Counts

@@ -3,7 +3,7 @@ ghost use Rattle.std.specs.Prelude.{◌≡◌};
 ghost use Rattle.records.specs.Tables.{tables};
 ghost use Rattle.board.specs.Begins.{begins, zeroed};
 
-use crate::board::{Board, Layout, MOST_PLACES, SCANNERS, TRAY_WORDS};
+use crate::board::{Board, Layout, SCANNERS, TRAY_WORDS};
 use crate::room::Room;
 use records::entries::{Descriptor, Node};
 use records::scanner::Scanner;
@@ -21,33 +21,22 @@ impl<K> Layout<K> {
         ensures answer { result ≡ begins (tables words.old nodes.old descriptors.old scanners.old) }
         ensures after { tables words.new nodes.new descriptors.new scanners.new ≡ zeroed (tables words.old nodes.old descriptors.old scanners.old) }
     {
-        let (node_room, descriptor_room) = (nodes.len(), descriptors.len());
-        let lengths = 1..=MOST_PLACES;
-        if words.len() != TRAY_WORDS
-            || scanners.len() != SCANNERS
-            || !lengths.contains(&node_room)
-            || !lengths.contains(&descriptor_room)
-        {
+        if words.len() != TRAY_WORDS || scanners.len() != SCANNERS {
             return Err(Refusal::TableLength);
         }
+        let board = Board {
+            trays: 0,
+            crew: 0,
+            kinds: 0,
+            nodes: Room::of(nodes)?,
+            descriptors: Room::of(descriptors)?,
+        };
         words.fill(0);
         nodes.fill(Node::ZERO);
         descriptors.fill(Descriptor::ZERO);
         scanners.fill(Scanner::ZERO);
         Ok(Layout {
-            board: Board {
-                trays: 0,
-                crew: 0,
-                kinds: 0,
-                nodes: Room {
-                    room: node_room as u32,
-                    taken: 0,
-                },
-                descriptors: Room {
-                    room: descriptor_room as u32,
-                    taken: 0,
-                },
-            },
+            board,
             kind: PhantomData,
         })
     }

@@ -30,6 +30,7 @@ impl Board {
     }
 }
 
+// Both phases pass the one question on: a trait, or a `Deref` to the board, would be longer than the two functions.
 impl<K> Layout<K> {
     // The kind number of a tray: none where it is not laid.
     pub fn kind_of(&self, tray: u32) -> Option<u32>

@@ -1,9 +1,11 @@
 // How many places a table has, and how many of them are taken: plain numbers, kept within the table by an invariant in the type.
 ghost use Rattle.std.specs.Prelude.{◌≡◌, length};
 ghost use Rattle.places.specs.Places.{next_place, table_after};
-ghost use Rattle.board.specs.Rooms.{with_place};
+ghost use Rattle.board.specs.Rooms.{room_of, with_place};
 
+use crate::board::MOST_PLACES;
 use places::places::Places;
+use refusals::refusal::Refusal;
 use std::marker::Model;
 
 // `room` is the table's length. The places are numbered from 1, and those up to `taken` are taken.
@@ -26,6 +28,20 @@ impl Model for Room {
 }
 
 impl Room {
+    // The room of a table of which no place is taken. A table with no place, or with more than words can name, is refused.
+    pub(crate) fn of<T>(table: &[T]) -> Result<Room, Refusal>
+        ensures { result ≡ room_of (length table.now) }
+    {
+        let room = table.len();
+        if !(1..=MOST_PLACES).contains(&room) {
+            return Err(Refusal::TableLength);
+        }
+        Ok(Room {
+            room: room as u32,
+            taken: 0,
+        })
+    }
+
     // Takes the table's next place and writes `value` there; none where all are taken.
     pub(crate) fn take<T: Copy>(&mut self, table: &mut [T], value: T) -> Option<u32>
         requires { length table.old ≡ self.old.room }

@@ -1,4 +1,5 @@
-// The four tables, lent together to a call that writes tray words and nodes, and only reads the rest.
+// The four tables, lent together to a call that writes tray words and nodes, and only reads the rest. The beginning of a board
+// writes all four, so it takes them one by one.
 use records::entries::{Descriptor, Node};
 use records::scanner::Scanner;
 
