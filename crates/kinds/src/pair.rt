@@ -7,10 +7,7 @@ use records::entries::Swap;
 use std::marker::PhantomData;
 
 // No value of it is needed: a kind is used by its type.
-pub struct Pair<A, B> {
-    first: PhantomData<A>,
-    second: PhantomData<B>,
-}
+pub struct Pair<A, B>(PhantomData<(A, B)>);
 
 // Asks the kind that has the number: the first as its number 0, or the second by its own number.
 macro_rules! ask {
