@@ -1,7 +1,6 @@
 -- Laying a tray adds just that tray.
-use Rattle.std.proofs.Common.{◌≡◌, ℕ, ◌+◌, ◌*◌, ◌^◌, ◌<◌, ◌≤◌, Bool, true, false, cond, ltb, List, length, get_or, set, Ok, Result, sym, refl, ap, ◌∙◌, subst, inl, inr, arith, length-set, get_or-set_other, get_or-set_same}
+use Rattle.std.proofs.Common.{◌≡◌, ℕ, ◌+◌, ◌*◌, ◌^◌, ◌<◌, ◌≤◌, Bool, true, false, cond, ltb, List, length, get_or, set, Ok, sym, refl, ap, ◌∙◌, subst, inl, inr, arith, length-set, get_or-set_other, get_or-set_same}
 use Rattle.std.proofs.lemmas.Bool.Decides.{nat_tests}
-use Rattle.refusals.specs.declared.refusal.Refusal.{Refusal}
 use Rattle.refusals.specs.declared.refusal.Refusal.TheVariants.{TableLength, TraysFull, NodesFull}
 use Rattle.records.specs.declared.entries.Node.{Node}
 use Rattle.records.specs.Tables.{Tables, zero_node}
@@ -10,7 +9,7 @@ use Rattle.kinds.specs.Plans.{Plan}
 use Rattle.kinds.specs.Points.{Points, OpeningWord}
 use Rattle.board.specs.Numbers.{Numbers, fits}
 use Rattle.board.specs.Kinds.{capped}
-use Rattle.board.specs.Lays.{Laid, opens_with, opens_tray, lays, with_nodes, refused}
+use Rattle.board.specs.Lays.{Laid, laid, opens_with, opens_tray, lays, with_nodes, refused}
 use Rattle.board.specs.Takes.{numbers_with_node, nodes_with_node, with_nodes_taken}
 use Rattle.board.specs.Laws.{Fresh, AddsTray, Laying}
 use Rattle.board.proofs.Kept.{new_digit, old_digit}
@@ -84,10 +83,5 @@ module _ (plan : ℕ → Plan) (points : (k : ℕ) → Points (plan k)) (n : Num
   laid_lawful = laid_if (fits n t) (ltb n.trays 32) refl refl
 
 -- the law, for a tray that was laid as the definition lays it
-pub equals_laid : (kind : ℕ) (n : Numbers) (t : Tables) (l : Laid) → Lawful kind n t l → (tray : ℕ) (n' : Numbers) (t' : Tables) → Ok tray ≡ l.answer → n' ≡ l.board → t' ≡ l.tables → AddsTray kind n n' t t' tray
-equals_laid kind n t l law tray n' t' answer board after =
-    let lawful : Laying kind n n' t t' (Ok tray) =
-    subst (λ (x : Numbers). Laying kind n x t t' (Ok tray)) (sym board)
-    (subst (λ (x : Tables). Laying kind n l.board t x (Ok tray)) (sym after)
-    (subst (λ (x : Result ℕ Refusal). Laying kind n l.board t l.tables x) (sym answer) law)) in
-    lawful
+pub equals_laid : (kind : ℕ) (n : Numbers) (t : Tables) (l : Laid) → Lawful kind n t l → (tray : ℕ) (n' : Numbers) (t' : Tables) → laid (Ok tray) n' t' ≡ l → AddsTray kind n n' t t' tray
+equals_laid kind n t l law tray n' t' is = subst (λ (x : Laid). Lawful kind n t x) (sym is) law

@@ -16,8 +16,11 @@ pub record Laid : Type 0 where
   pub board : Numbers
   pub tables : Tables
 
+abbrev pub laid : Result ℕ Refusal → Numbers → Tables → Laid
+laid answer n t = record { answer = answer; board = n; tables = t }
+
 abbrev pub refused : Numbers → Tables → Refusal → Laid
-refused n t why = record { answer = Err why; board = n; tables = t }
+refused n t why = laid (Err why) n t
 
 -- one tray more, of this kind
 abbrev pub with_tray : Numbers → ℕ → Numbers

@@ -2,7 +2,7 @@
 ghost use Rattle.std.specs.Prelude.{◌≡◌};
 ghost use Rattle.board.specs.Numbers.{fits};
 ghost use Rattle.board.specs.Laws.{Laying};
-ghost use Rattle.board.specs.Lays.{lays};
+ghost use Rattle.board.specs.Lays.{laid, lays};
 ghost use Rattle.board.specs.Lent.{held, SameTables};
 
 use crate::board::{Board, Layout, MOST_TRAYS, SCANNERS, TRAY_WORDS};
@@ -26,9 +26,7 @@ impl Board {
 impl<K: TrayKind> Layout<K> {
     // Lays one more tray of a kind and answers its number. A refusal leaves the board and the tables as they are.
     pub fn lay(&mut self, tables: &mut LentTables<'_>, kind: u32) -> Result<u32, Refusal>
-        ensures answer { result ≡ (lays K.TrayKind.plan self.old (held tables.old) kind).answer }
-        ensures board { self.new ≡ (lays K.TrayKind.plan self.old (held tables.old) kind).board }
-        ensures after { held tables.new ≡ (lays K.TrayKind.plan self.old (held tables.old) kind).tables }
+        ensures after { laid result self.new (held tables.new) ≡ lays K.TrayKind.plan self.old (held tables.old) kind }
         ensures same { SameTables tables.old tables.new }
         ensures law { Laying kind self.old self.new (held tables.old) (held tables.new) result }
     {

@@ -10,7 +10,7 @@ impl<K> Layout<K> {
     pub fn start(self, crew: u32) -> Result<Running<K>, (Layout<K>, Refusal)>
         ensures { result ≡ started self crew }
     {
-        if crew < 1 || crew > MOST_CREW {
+        if !(1..=MOST_CREW).contains(&crew) {
             return Err((self, Refusal::CrewSize));
         }
         let Layout { mut board, kind } = self;

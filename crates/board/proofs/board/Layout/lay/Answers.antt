@@ -10,6 +10,5 @@ returns-clause-law g c =
     let n = c.args.self.now in
     let t = held c.args.tables.now in
     let plan = g.K.TrayKind.plan in
-    let laid = lays plan n t c.args.kind in
     let digits : n.kinds < 2 ^ (4 * n.trays) = rw (← c.self.view_is, ← c.board.view_is) c.board.invariant.kind_digits in
-    equals_laid c.args.kind n t laid (laid_lawful plan c.show_points.ensures n t c.args.kind digits) _ _ _ (search rules) (search rules) (search rules)
+    equals_laid c.args.kind n t (lays plan n t c.args.kind) (laid_lawful plan c.show_points.ensures n t c.args.kind digits) _ _ _ (search rules)
