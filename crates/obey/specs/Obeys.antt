@@ -23,6 +23,9 @@ pub record Done : Type 0 where
   pub done : Obeyed
   pub tables : Tables
 
+abbrev pub did : Obeyed → Tables → Done
+did obeyed t = record { done = obeyed; tables = t }
+
 -- the kinds of tray that the program has: number 0 is the queue, and 1 the stack
 abbrev pub depot_plan : ℕ → Plan
 depot_plan = pick (λ k. queue_plan) (λ k. stack_plan)
@@ -32,12 +35,12 @@ laid_reply (Ok tray) = Ok (LaidTray tray)
 laid_reply (Err e) = Err e
 
 abbrev pub after_lay : Laid → Done
-after_lay l = record { done = record { phase = LaidOut l.board; reply = laid_reply l.answer }; tables = l.tables }
+after_lay l = did (record { phase = LaidOut l.board; reply = laid_reply l.answer }) l.tables
 
 -- trays are laid before the start
 abbrev pub lays_in : Phase → ℕ → Tables → Done
 lays_in (LaidOut n) kind t = after_lay (lays depot_plan n t kind)
-lays_in (Running n) kind t = record { done = record { phase = Running n; reply = Err OutOfPhase }; tables = t }
+lays_in (Running n) kind t = did (record { phase = Running n; reply = Err OutOfPhase }) t
 
 abbrev pub after_start : Result Numbers (Numbers × Refusal) → Obeyed
 after_start (Ok n) = record { phase = Running n; reply = Ok Started }
@@ -51,8 +54,8 @@ starts_in (Running n) crew = record { phase = Running n; reply = Err OutOfPhase 
 abbrev pub does : Phase → Result Order Refusal → Tables → Done
 does p (Ok LayQueue) t = lays_in p 0 t
 does p (Ok LayStack) t = lays_in p 1 t
-does p (Ok (Start crew)) t = record { done = starts_in p crew; tables = t }
-does p (Err e) t = record { done = record { phase = p; reply = Err e }; tables = t }
+does p (Ok (Start crew)) t = did (starts_in p crew) t
+does p (Err e) t = did (record { phase = p; reply = Err e }) t
 
 abbrev pub obeys : Phase → List ℕ → Tables → Done
 obeys p text t = does p (order_of text) t

@@ -1,7 +1,7 @@
 // One order, carried out on the board.
 ghost use Rattle.std.specs.Prelude.{◌≡◌, Err};
 ghost use Rattle.board.specs.Lent.{held, SameTables};
-ghost use Rattle.obey.specs.Obeys.{lays_in, starts_in, obeys};
+ghost use Rattle.obey.specs.Obeys.{did, lays_in, starts_in, obeys};
 
 use crate::kinds_used::{QUEUE, STACK};
 use crate::phase::{Obeyed, Phase, Reply};
@@ -24,8 +24,7 @@ impl Obeyed {
 
 // Lays a tray while the board is laid out.
 fn lay_tray(phase: Phase, kind: u32, tables: &mut LentTables<'_>) -> Obeyed
-    ensures answer { result ≡ (lays_in phase kind (held tables.old)).done }
-    ensures after { held tables.new ≡ (lays_in phase kind (held tables.old)).tables }
+    ensures after { did result (held tables.new) ≡ lays_in phase kind (held tables.old) }
     ensures same { SameTables tables.old tables.new }
 {
     match phase {
@@ -58,8 +57,7 @@ fn start_board(phase: Phase, crew: u32) -> Obeyed
 
 // Carries out the order that the text says.
 pub fn carry_out(phase: Phase, text: &[u8], tables: &mut LentTables<'_>) -> Obeyed
-    ensures answer { result ≡ (obeys phase text.now (held tables.old)).done }
-    ensures after { held tables.new ≡ (obeys phase text.now (held tables.old)).tables }
+    ensures after { did result (held tables.new) ≡ obeys phase text.now (held tables.old) }
     ensures same { SameTables tables.old tables.new }
 {
     match read_order(text) {

@@ -6,7 +6,7 @@ use Rattle.records.specs.Tables.{Tables}
 use Rattle.lines.specs.Lines.{line_of}
 use Rattle.lines.specs.Places.{end_at, written_at}
 use Rattle.obey.specs.declared.phase.Obeyed.{Obeyed}
-use Rattle.obey.specs.Obeys.{obeys}
+use Rattle.obey.specs.Obeys.{Done, did, obeys}
 use Rattle.obey.specs.Prints.{values}
 use Rattle.session.specs.declared.fault.Played.{Played}
 use Rattle.session.specs.Plays.{State, state, Ended, ended, whole, broken, on_line, after_order, orders_from}
@@ -17,17 +17,16 @@ module _ (texts : List (List ℕ)) (i : ℕ) (s : State) (all : Ended) (inv : or
 
   -- the order does r and leaves the tables t, and its line leaves `out`
   module _ (h : i < length texts) (text : List ℕ) (is : text ≡ get_or texts i [])
-      (r : Obeyed) (did : r ≡ (obeys s.phase text s.tables).done)
-      (t : Tables) (left : t ≡ (obeys s.phase text s.tables).tables)
+      (r : Obeyed) (t : Tables) (obeyed : did r t ≡ obeys s.phase text s.tables)
       (out : List ℕ) (wrote : out ≡ written_at s.out s.at (line_of (i + 1) (values r.reply))) where
     next : after_order (i + 1) (obeys s.phase (get_or texts i []) s.tables) s (orders_from (i + 1 + 1) (drop (i + 1) texts)) ≡ all
     next = sym (at_drop_more (λ l. orders_from (i + 1) l s) texts i [] h) ∙ inv
 
     does : r ≡ (obeys s.phase (get_or texts i []) s.tables).done
-    does = did ∙ ap (λ x. (obeys s.phase x s.tables).done) is
+    does = ap (λ (d : Done). d.done) obeyed ∙ ap (λ x. (obeys s.phase x s.tables).done) is
 
     leaves : t ≡ (obeys s.phase (get_or texts i []) s.tables).tables
-    leaves = left ∙ ap (λ x. (obeys s.phase x s.tables).tables) is
+    leaves = ap (λ (d : Done). d.tables) obeyed ∙ ap (λ x. (obeys s.phase x s.tables).tables) is
 
     writes : out ≡ written_at s.out s.at (line_of (i + 1) (values (obeys s.phase (get_or texts i []) s.tables).done.reply))
     writes = wrote ∙ ap (λ (x : Obeyed). written_at s.out s.at (line_of (i + 1) (values x.reply))) does

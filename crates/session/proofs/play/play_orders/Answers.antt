@@ -7,14 +7,14 @@ pub loop-place-preserved : goal.loop-place-preserved
 loop-place-preserved c =
     let less : c.loop-place.place < length (texts_of c.args.file) = omega (arith, c.count-place-end.ensures.value) in
     record {
-      so_far = goes_on _ _ _ _ c.loop-place.invariant.so_far less _ c.text.ensures _ c.carry_out-obeyed.ensures.answer _ c.carry_out-obeyed.ensures.after _ c.print_reply.ensures.after _ c.in-Ok.ensures.answer;
+      so_far = goes_on _ _ _ _ c.loop-place.invariant.so_far less _ c.text.ensures _ _ c.carry_out-obeyed.ensures.after _ c.print_reply.ensures.after _ c.in-Ok.ensures.answer;
       same = search rules;
     }
 
 pub returns-in-Err-clause-answer : goal.returns-in-Err-clause-answer
 returns-in-Err-clause-answer c =
     let less : c.loop-place.place < length (texts_of c.args.file) = omega (arith, c.count-place-end.ensures.value) in
-    stops _ _ _ _ c.loop-place.invariant.so_far less _ c.text.ensures _ c.carry_out-obeyed.ensures.answer _ c.carry_out-obeyed.ensures.after _ c.print_reply.ensures.after _ c.in-Err.ensures.answer _ c.ended_by.ensures
+    stops _ _ _ _ c.loop-place.invariant.so_far less _ c.text.ensures _ _ c.carry_out-obeyed.ensures.after _ c.print_reply.ensures.after _ c.in-Err.ensures.answer _ c.ended_by.ensures
 
 pub returns-clause-answer : goal.returns-clause-answer
 returns-clause-answer c =
