@@ -3,8 +3,8 @@ use Rattle.std.specs.Prelude.{ℕ, Bool, cond, ◌&&◌, length, replicate, Ok, 
 use Rattle.refusals.specs.declared.refusal.Refusal.{Refusal}
 use Rattle.refusals.specs.declared.refusal.Refusal.TheVariants.{TableLength}
 use Rattle.records.specs.Tables.{Tables, tables, zero_node, zero_descriptor, zero_scanner}
-use Rattle.board.specs.declared.board.Layout.{Layout}
-use Rattle.board.specs.Numbers.{Numbers, numbers}
+use Rattle.board.specs.Rooms.{untaken}
+use Rattle.board.specs.Numbers.{Numbers}
 
 -- 64 tray words, 1 to 4,095 nodes, 1 to 4,095 descriptors, 16 scanner records
 abbrev pub has_lengths : Tables → Bool
@@ -16,15 +16,7 @@ has_lengths t =
 
 -- a board with no tray, no crew, and no place taken
 abbrev pub bare : ℕ → ℕ → Numbers
-bare node_room descriptor_room = record {
-  trays = 0;
-  crew = 0;
-  kinds = 0;
-  node_room = node_room;
-  nodes_taken = 0;
-  descriptor_room = descriptor_room;
-  descriptors_taken = 0;
-}
+bare node_room descriptor_room = record { trays = 0; crew = 0; kinds = 0; nodes = untaken node_room; descriptors = untaken descriptor_room }
 
 abbrev pub begins : Tables → Result Numbers Refusal
 begins t = cond (has_lengths t) (Ok (bare (length t.nodes) (length t.descriptors))) (Err TableLength)
@@ -35,8 +27,3 @@ zeroed t =
     cond (has_lengths t)
     (tables (replicate (length t.words) 0) (replicate (length t.nodes) zero_node) (replicate (length t.descriptors) zero_descriptor) (replicate (length t.scanners) zero_scanner))
     t
-
--- a new board by its numbers
-abbrev pub opened : {K : Type 0} → Result (Layout K) Refusal → Result Numbers Refusal
-opened (Ok l) = Ok (numbers l.board)
-opened (Err e) = Err e

@@ -7,7 +7,7 @@ use Rattle.board.specs.Kinds.{capped, kind_of}
 
 -- a word of a tray that was just opened: nil, or a node that was not taken before and is taken now
 abbrev pub Fresh : Numbers → Numbers → ℕ → Type 0
-Fresh before after word = (word ≡ 0) ⊎ ((before.nodes_taken < word) × (word ≤ after.nodes_taken))
+Fresh before after word = (word ≡ 0) ⊎ ((before.nodes.taken < word) × (word ≤ after.nodes.taken))
 
 -- The tray gets the next number and the kind asked for. No other tray changes its kind or its words, and no taken node changes.
 pub record AddsTray (kind : ℕ) (n n' : Numbers) (t t' : Tables) (tray : ℕ) : Type 0 where
@@ -18,7 +18,7 @@ pub record AddsTray (kind : ℕ) (n n' : Numbers) (t t' : Tables) (tray : ℕ) :
   pub first_word : Fresh n n' (slice_index t'.words (2 * tray))
   pub second_word : Fresh n n' (slice_index t'.words (2 * tray + 1))
   pub other_words : (a : ℕ) → (a ≢ 2 * tray) → (a ≢ 2 * tray + 1) → slice_index t'.words a ≡ slice_index t.words a
-  pub taken_nodes : (i : ℕ) → i < n.nodes_taken → slice_index_or t'.nodes i zero_node ≡ slice_index_or t.nodes i zero_node
+  pub taken_nodes : (i : ℕ) → i < n.nodes.taken → slice_index_or t'.nodes i zero_node ≡ slice_index_or t.nodes i zero_node
   pub descriptors : t'.descriptors ≡ t.descriptors
   pub scanners : t'.scanners ≡ t.scanners
 

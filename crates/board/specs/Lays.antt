@@ -16,20 +16,15 @@ pub record Laid : Type 0 where
   pub board : Numbers
   pub tables : Tables
 
+abbrev pub laid : Result ℕ Refusal → Numbers → Tables → Laid
+laid answer n t = record { answer = answer; board = n; tables = t }
+
 abbrev pub refused : Numbers → Tables → Refusal → Laid
-refused n t why = record { answer = Err why; board = n; tables = t }
+refused n t why = laid (Err why) n t
 
 -- one tray more, of this kind
 abbrev pub with_tray : Numbers → ℕ → Numbers
-with_tray n kind = record {
-  trays = n.trays + 1;
-  crew = n.crew;
-  kinds = n.kinds + kind * 2 ^ (4 * n.trays);
-  node_room = n.node_room;
-  nodes_taken = n.nodes_taken;
-  descriptor_room = n.descriptor_room;
-  descriptors_taken = n.descriptors_taken;
-}
+with_tray n kind = record n { trays = n.trays + 1; kinds = n.kinds + kind * 2 ^ (4 * n.trays) }
 
 -- tray t has the words at 2t and 2t + 1
 abbrev pub words_opened : List ℕ → ℕ → Plan → ℕ → List ℕ
@@ -50,8 +45,8 @@ with_nodes t nodes = tables t.words nodes t.descriptors t.scanners
 abbrev pub opens_tray : Bool → Plan → ℕ → Numbers → Tables → Laid
 opens_tray false plan kind n t = opens_with plan kind n t 0
 opens_tray true plan kind n t =
-    cond (has_place n.node_room n.nodes_taken)
-    (opens_with plan kind (numbers_with_node n) (with_nodes t (nodes_with_node n t.nodes)) (n.nodes_taken + 1))
+    cond (has_place n.nodes.room n.nodes.taken)
+    (opens_with plan kind (numbers_with_node n) (with_nodes t (nodes_with_node n t.nodes)) (n.nodes.taken + 1))
     (refused n t NodesFull)
 
 -- the next tray, while fewer than 32 stand, in tables of the board's lengths

@@ -1,7 +1,10 @@
+pub mod Rooms
 pub mod Numbers
+pub mod Views
 pub mod Kinds
 pub mod Begins
 pub mod Takes
 pub mod Lays
 pub mod Laws
 pub mod Phases
+pub mod Lent

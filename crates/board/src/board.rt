@@ -1,7 +1,6 @@
 // The board's own state: plain numbers, kept within the tables by an invariant in the type.
-ghost use Rattle.std.specs.Prelude.{◌*◌, ◌^◌, ◌<◌, ◌≤◌};
-
-use std::marker::PhantomData;
+use crate::room::Room;
+use std::marker::{Model, PhantomData};
 
 // How many trays and scanners a board has at most, and how many of the places of a table a word can name.
 pub const MOST_TRAYS: u32 = 32;
@@ -15,23 +14,27 @@ pub const TRAY_WORDS: usize = 64;
 
 pub const SCANNERS: usize = 16;
 
-// `kinds` has a digit of four bits for each tray: its kind number. `room` is a table's length, `taken` how many of its places are taken.
+// `kinds` has a digit of four bits for each tray: its kind number.
 #[derive(Drop)]
 pub struct Board {
     pub(crate) trays: u32,
     pub(crate) crew: u32,
     pub(crate) kinds: u128,
-    pub(crate) node_room: u32,
-    pub(crate) nodes_taken: u32,
-    pub(crate) descriptor_room: u32,
-    pub(crate) descriptors_taken: u32,
-    ghost few_trays: { trays ≤ 32 },
-    ghost small_crew: { crew ≤ 16 },
-    ghost kind_digits: { kinds < 2 ^ (4 * trays) },
-    ghost node_table: { (1 ≤ node_room) × (node_room ≤ 4095) },
-    ghost nodes_fit: { nodes_taken ≤ node_room },
-    ghost descriptor_table: { (1 ≤ descriptor_room) × (descriptor_room ≤ 4095) },
-    ghost descriptors_fit: { descriptors_taken ≤ descriptor_room },
+    pub(crate) nodes: Room,
+    pub(crate) descriptors: Room,
+}
+
+// Clauses see a board's numbers.
+impl Model for Board {
+    ghost use Rattle.board.specs.Numbers.{Numbers};
+
+    ghost Value = { Numbers };
+
+    ghost use Rattle.board.specs.Views.{numbers, BoardKept};
+
+    ghost view = { numbers };
+
+    ghost invariant = { BoardKept };
 }
 
 // A board that is laid out: trays may be added to it. Its trays are of the kinds of K.
@@ -41,10 +44,28 @@ pub struct Layout<K> {
     pub(crate) kind: PhantomData<K>,
 }
 
+impl<K> Model for Layout<K> {
+    ghost use Rattle.board.specs.Numbers.{Numbers};
+
+    ghost Value = { Numbers };
+
+    ghost view = { λ l. l.board };
+}
+
 // A board that runs: its crew may hand requests in.
 #[derive(Drop)]
 pub struct Running<K> {
     pub(crate) board: Board,
     pub(crate) kind: PhantomData<K>,
-    ghost manned: { 1 ≤ board.crew },
+}
+
+impl<K> Model for Running<K> {
+    ghost use Rattle.std.specs.Prelude.{◌≤◌};
+    ghost use Rattle.board.specs.Numbers.{Numbers};
+
+    ghost Value = { Numbers };
+
+    ghost view = { λ r. r.board };
+
+    ghost invariant = { λ r. 1 ≤ r.board.crew };
 }

@@ -1,26 +1,27 @@
 // The kinds of the trays that are laid, packed into one number: four bits for each tray, tray 0 lowest.
-ghost use Rattle.std.specs.Prelude.{◌≡◌, ◌+◌, ◌*◌, ◌^◌, ◌<◌, ◌≤◌};
-ghost use Rattle.board.specs.Numbers.{numbers};
+ghost use Rattle.std.specs.Prelude.{◌≡◌, ◌<◌, ◌≤◌};
 ghost use Rattle.board.specs.Kinds.{kind_of};
+ghost use Rattle.board.specs.Lays.{with_tray};
 
 use crate::board::{Board, Layout, Running};
 
 // The highest kind number that a board keeps; a higher one is taken as this.
 pub const LAST_KIND: u32 = 15;
 
-// `kind` as digit `tray` above the digits of `kinds`.
-pub(crate) fn with_kind(kinds: u128, tray: u32, kind: u32) -> u128
-    requires { (tray < 32) × ((kind ≤ 15) × (kinds < 2 ^ (4 * tray))) }
-    ensures value { result ≡ kinds + kind * 2 ^ (4 * tray) }
-    ensures bound { result < 2 ^ (4 * (tray + 1)) }
-{
-    kinds + ((kind as u128) << (4 * tray))
-}
-
 impl Board {
+    // Counts one tray more, of this kind: its digit stands above those of the other trays.
+    pub(crate) fn add_tray(&mut self, kind: u32)
+        requires room { self.old.trays < 32 }
+        requires digit { kind ≤ 15 }
+        ensures { self.new ≡ with_tray self.old kind }
+    {
+        self.kinds += (kind as u128) << (4 * self.trays);
+        self.trays += 1;
+    }
+
     // The kind number of a tray: none where it is not laid.
     pub(crate) fn kind_of(&self, tray: u32) -> Option<u32>
-        ensures { result ≡ kind_of (numbers self.now) tray }
+        ensures { result ≡ kind_of self.now tray }
     {
         if tray >= self.trays {
             return None;
@@ -29,10 +30,11 @@ impl Board {
     }
 }
 
+// Both phases pass the one question on: a trait, or a `Deref` to the board, would be longer than the two functions.
 impl<K> Layout<K> {
     // The kind number of a tray: none where it is not laid.
     pub fn kind_of(&self, tray: u32) -> Option<u32>
-        ensures { result ≡ kind_of (numbers self.now.board) tray }
+        ensures { result ≡ kind_of self.now tray }
     {
         self.board.kind_of(tray)
     }
@@ -41,7 +43,7 @@ impl<K> Layout<K> {
 impl<K> Running<K> {
     // The kind number of a tray: none where it is not laid.
     pub fn kind_of(&self, tray: u32) -> Option<u32>
-        ensures { result ≡ kind_of (numbers self.now.board) tray }
+        ensures { result ≡ kind_of self.now tray }
     {
         self.board.kind_of(tray)
     }

@@ -1,86 +1,54 @@
 // Laying a tray: it takes the next tray number and is opened by its kind.
-ghost use Rattle.std.specs.Prelude.{◌≡◌, ◌<◌, ◌≤◌};
-ghost use Rattle.records.specs.Tables.{tables};
-ghost use Rattle.board.specs.Numbers.{numbers, fits};
+ghost use Rattle.std.specs.Prelude.{◌≡◌};
+ghost use Rattle.board.specs.Numbers.{fits};
 ghost use Rattle.board.specs.Laws.{Laying};
-ghost use Rattle.board.specs.Lays.{lays_kind, lays};
+ghost use Rattle.board.specs.Lays.{laid, lays};
+ghost use Rattle.board.specs.Lent.{held, SameTables};
 
 use crate::board::{Board, Layout, MOST_TRAYS, SCANNERS, TRAY_WORDS};
-use crate::kinds_laid::{LAST_KIND, with_kind};
+use crate::kinds_laid::LAST_KIND;
+use crate::tables::LentTables;
 use kinds::kind::TrayKind;
-use records::entries::{Descriptor, Node};
-use records::scanner::Scanner;
 use refusals::refusal::Refusal;
 
 impl Board {
     // Whether the tables have the lengths that the board was begun with.
-    pub(crate) fn fits(
-        &self,
-        words: &[u32],
-        nodes: &[Node],
-        descriptors: &[Descriptor],
-        scanners: &[Scanner],
-    ) -> bool
-        ensures { result ≡ fits (numbers self.now) (tables words.now nodes.now descriptors.now scanners.now) }
+    pub(crate) fn fits(&self, tables: &LentTables<'_>) -> bool
+        ensures { result ≡ fits self.now (held tables.now) }
     {
-        words.len() == TRAY_WORDS
-            && scanners.len() == SCANNERS
-            && nodes.len() == self.node_room as usize
-            && descriptors.len() == self.descriptor_room as usize
+        tables.words.len() == TRAY_WORDS
+            && tables.scanners.len() == SCANNERS
+            && tables.nodes.len() == self.nodes.room as usize
+            && tables.descriptors.len() == self.descriptors.room as usize
     }
 }
 
 impl<K: TrayKind> Layout<K> {
     // Lays one more tray of a kind and answers its number. A refusal leaves the board and the tables as they are.
-    pub fn lay(
-        &mut self,
-        words: &mut [u32],
-        nodes: &mut [Node],
-        descriptors: &[Descriptor],
-        scanners: &[Scanner],
-        kind: u32,
-    ) -> Result<u32, Refusal>
-        ensures answer { result ≡ (lays K.TrayKind.plan (numbers self.old.board) (tables words.old nodes.old descriptors.now scanners.now) kind).answer }
-        ensures board { numbers self.new.board ≡ (lays K.TrayKind.plan (numbers self.old.board) (tables words.old nodes.old descriptors.now scanners.now) kind).board }
-        ensures after { tables words.new nodes.new descriptors.now scanners.now ≡ (lays K.TrayKind.plan (numbers self.old.board) (tables words.old nodes.old descriptors.now scanners.now) kind).tables }
-        ensures law { Laying kind (numbers self.old.board) (numbers self.new.board) (tables words.old nodes.old descriptors.now scanners.now) (tables words.new nodes.new descriptors.now scanners.now) result }
+    pub fn lay(&mut self, tables: &mut LentTables<'_>, kind: u32) -> Result<u32, Refusal>
+        ensures after { laid result self.new (held tables.new) ≡ lays K.TrayKind.plan self.old (held tables.old) kind }
+        ensures same { SameTables tables.old tables.new }
+        ensures law { Laying kind self.old self.new (held tables.old) (held tables.new) result }
     {
         K::show_points();
-        self.lay_kind(words, nodes, descriptors, scanners, kind.min(LAST_KIND))
-    }
-
-    // The same for a kind number that the board can keep.
-    fn lay_kind(
-        &mut self,
-        words: &mut [u32],
-        nodes: &mut [Node],
-        descriptors: &[Descriptor],
-        scanners: &[Scanner],
-        kind: u32,
-    ) -> Result<u32, Refusal>
-        requires { kind ≤ 15 }
-        ensures answer { result ≡ (lays_kind (K.TrayKind.plan kind) kind (numbers self.old.board) (tables words.old nodes.old descriptors.now scanners.now)).answer }
-        ensures board { numbers self.new.board ≡ (lays_kind (K.TrayKind.plan kind) kind (numbers self.old.board) (tables words.old nodes.old descriptors.now scanners.now)).board }
-        ensures after { tables words.new nodes.new descriptors.now scanners.now ≡ (lays_kind (K.TrayKind.plan kind) kind (numbers self.old.board) (tables words.old nodes.old descriptors.now scanners.now)).tables }
-    {
-        let tray = self.board.trays;
-        if !self.board.fits(words, nodes, descriptors, scanners) {
+        let kind = kind.min(LAST_KIND);
+        let board = &mut self.board;
+        let tray = board.trays;
+        if !board.fits(tables) {
             return Err(Refusal::TableLength);
         }
         if tray >= MOST_TRAYS {
             return Err(Refusal::TraysFull);
         }
         let node = if K::takes_node(kind) {
-            self.board.take_node(nodes)?
+            board.take_node(tables.nodes)?
         } else {
             0
         };
         let opening = K::opening(kind, node);
-        words[2 * tray as usize] = opening.first;
-        words[2 * tray as usize + 1] = opening.second;
-        let kinds = with_kind(self.board.kinds, tray, kind);
-        self.board.trays = tray + 1;
-        self.board.kinds = kinds;
+        tables.words[2 * tray as usize] = opening.first;
+        tables.words[2 * tray as usize + 1] = opening.second;
+        board.add_tray(kind);
         Ok(tray)
     }
 }

@@ -5,5 +5,7 @@ pub mod begin;
 pub mod board;
 pub mod kinds_laid;
 pub mod lay;
+mod room;
 pub mod start;
+pub mod tables;
 mod take_places;

@@ -1,7 +1,6 @@
 // The start: a laid-out board becomes a running one.
 ghost use Rattle.std.specs.Prelude.{◌≡◌};
-ghost use Rattle.board.specs.Numbers.{numbers};
-ghost use Rattle.board.specs.Phases.{begun, started};
+ghost use Rattle.board.specs.Phases.{started};
 
 use crate::board::{Layout, MOST_CREW, Running};
 use refusals::refusal::Refusal;
@@ -9,9 +8,9 @@ use refusals::refusal::Refusal;
 impl<K> Layout<K> {
     // Starts the board with a crew of 1 to 16 scanners, or gives it back.
     pub fn start(self, crew: u32) -> Result<Running<K>, (Layout<K>, Refusal)>
-        ensures { begun result ≡ started (numbers self.board) crew }
+        ensures { result ≡ started self crew }
     {
-        if crew < 1 || crew > MOST_CREW {
+        if !(1..=MOST_CREW).contains(&crew) {
             return Err((self, Refusal::CrewSize));
         }
         let Layout { mut board, kind } = self;

@@ -4,6 +4,7 @@
 #[cfg(test)]
 mod tests {
     use board::board::Layout;
+    use board::tables::LentTables;
     use kinds::pair::Pair;
     use queue::queue::Queue;
     use records::entries::{Descriptor, Node};
@@ -19,13 +20,10 @@ mod tests {
     fn lay_in_turn(
         rt: &impl Abort,
         layout: &mut Layout<Kinds>,
-        words: &mut [u32],
-        nodes: &mut [Node],
-        descriptors: &[Descriptor],
-        scanners: &[Scanner],
+        tables: &mut LentTables<'_>,
     ) -> Result<(), Fail> {
         for i in 0..32u32 {
-            let tray = layout.lay(words, nodes, descriptors, scanners, i % 2)?;
+            let tray = layout.lay(tables, i % 2)?;
             assert_eq!(rt; tray, i);
         }
         Ok(())
@@ -44,15 +42,14 @@ mod tests {
             &mut descriptors,
             &mut scanners,
         )?;
-        lay_in_turn(
-            &rt,
-            &mut layout,
-            &mut words,
-            &mut nodes,
-            &descriptors,
-            &scanners,
-        )?;
-        let more = layout.lay(&mut words, &mut nodes, &descriptors, &scanners, 0);
+        let mut tables = LentTables {
+            words: &mut words,
+            nodes: &mut nodes,
+            descriptors: &descriptors,
+            scanners: &scanners,
+        };
+        lay_in_turn(&rt, &mut layout, &mut tables)?;
+        let more = layout.lay(&mut tables, 0);
         assert_eq!(rt; more, Err(Refusal::TraysFull));
         assert_eq!(rt; layout.kind_of(30), Some(0));
         assert_eq!(rt; layout.kind_of(31), Some(1));
@@ -78,12 +75,24 @@ mod tests {
             &mut descriptors,
             &mut scanners,
         )?;
-        let short = layout.lay(&mut words[0..63], &mut nodes, &descriptors, &scanners, 0);
+        let mut too_short = LentTables {
+            words: &mut words[0..63],
+            nodes: &mut nodes,
+            descriptors: &descriptors,
+            scanners: &scanners,
+        };
+        let short = layout.lay(&mut too_short, 0);
         assert_eq!(rt; short, Err(Refusal::TableLength));
-        layout.lay(&mut words, &mut nodes, &descriptors, &scanners, 0)?;
-        let full = layout.lay(&mut words, &mut nodes, &descriptors, &scanners, 0);
+        let mut tables = LentTables {
+            words: &mut words,
+            nodes: &mut nodes,
+            descriptors: &descriptors,
+            scanners: &scanners,
+        };
+        layout.lay(&mut tables, 0)?;
+        let full = layout.lay(&mut tables, 0);
         assert_eq!(rt; full, Err(Refusal::NodesFull));
-        let stack = layout.lay(&mut words, &mut nodes, &descriptors, &scanners, 1);
+        let stack = layout.lay(&mut tables, 1);
         assert_eq!(rt; stack, Ok(1));
         Ok(())
     }
@@ -101,14 +110,14 @@ mod tests {
             &mut descriptors,
             &mut scanners,
         )?;
-        let Err(back) = layout.start(17) else {
+        let Err((layout, refusal)) = layout.start(17) else {
             return Err(Fail::new("a crew of 17 started"));
         };
-        assert_eq!(rt; back.1, Refusal::CrewSize);
-        let Err(again) = back.0.start(0) else {
+        assert_eq!(rt; refusal, Refusal::CrewSize);
+        let Err((layout, _)) = layout.start(0) else {
             return Err(Fail::new("a crew of 0 started"));
         };
-        assert!(rt; again.0.start(16).is_ok());
+        assert!(rt; layout.start(16).is_ok());
         Ok(())
     }
 }

@@ -4,6 +4,7 @@
 #[cfg(test)]
 mod tests {
     use kinds::acts::{Found, Notes, PutAct, TakeAct};
+    use kinds::addresses::next_word_at;
     use kinds::kind::TrayKind;
     use queue::queue::Queue;
     use records::entries::Swap;
@@ -18,7 +19,7 @@ mod tests {
             return Found::NOTHING;
         }
         let next = if K::peeks(0) {
-            word_at(words, word.saturating_add(64))
+            word_at(words, next_word_at(word))
         } else {
             0
         };
@@ -34,12 +35,13 @@ mod tests {
     }
 
     fn swap(words: &mut [u32], swap: Swap) -> bool {
-        let index = swap.address as usize;
-        if index < words.len() && words[index] == swap.old {
-            words[index] = swap.new;
-            return true;
+        match words.get_mut(swap.address as usize) {
+            Some(word) if *word == swap.old => {
+                *word = swap.new;
+                true
+            }
+            _ => false,
         }
-        false
     }
 
     // The accesses of a put of a node into tray 0, its last swap among them.
@@ -49,7 +51,7 @@ mod tests {
             match K::put_act(0, 0, node, notes) {
                 PutAct::Read(address) => {
                     notes = K::put_noted(0, notes, found::<K>(words, address));
-                    let next = node.saturating_add(64) as usize;
+                    let next = next_word_at(node) as usize;
                     assert!(rt; next < words.len());
                     words[next] = K::fill(0, notes);
                 }

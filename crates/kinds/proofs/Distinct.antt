@@ -1,4 +1,5 @@
--- Distinct numbers from 1 to k are at most k many.
+-- Distinct numbers from 1 to k are at most k many. The library counts the keys of a list by tests (`length-le_from_distinct_below`);
+-- the way from these relations to its tests is as long as the count itself.
 use Rattle.std.proofs.Common.{◌≡◌, ℕ, zero, suc, ◌+◌, ◌<◌, ◌≤◌, ◌≢◌, ◌⊎◌, List, [], ◌∷◌, length, refl, subst, inl, inr, arith}
 use native.Mathlib.Decide.{ℕ_discrete}
 

@@ -1,4 +1,5 @@
 pub mod Views
+pub mod Addresses
 pub mod Walks
 pub mod Plain
 pub mod Plans

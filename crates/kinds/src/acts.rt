@@ -1,8 +1,9 @@
 // What a request at a tray does next, and what it notes.
 use records::entries::Swap;
 
-// What a request has noted of its reads; `stage` tells how far it has come, 0 at the start.
-#[derive(Clone, Copy)]
+// What a request has noted of its reads; `stage` tells how far it has come, 0 at the start. It is a number, since the notes
+// lie in the scanner's record, one plain record for the kinds of every type, and what the stages are is each kind's own affair.
+#[derive(Clone, Copy, PartialEq, Eq, Debug)]
 pub struct Notes {
     pub stage: u32,
     pub one: u32,
@@ -22,7 +23,7 @@ impl Notes {
 }
 
 // The next act of a put. A tidying swap changes no contents; the commit puts the parcel in.
-#[derive(Clone, Copy)]
+#[derive(Clone, Copy, PartialEq, Eq, Debug)]
 pub enum PutAct {
     Read(u32),
     Tidy(Swap),
@@ -30,7 +31,7 @@ pub enum PutAct {
 }
 
 // The next act of a take. Its commit names the parcel that it gives; `Empty` finishes it.
-#[derive(Clone, Copy)]
+#[derive(Clone, Copy, PartialEq, Eq, Debug)]
 pub enum TakeAct {
     Read(u32),
     Tidy(Swap),
@@ -39,7 +40,7 @@ pub enum TakeAct {
 }
 
 // What a read found: the word, and, read privately of the node that it names, the parcel, and the next word where the kind peeks.
-#[derive(Clone, Copy)]
+#[derive(Clone, Copy, PartialEq, Eq, Debug)]
 pub struct Found {
     pub word: u32,
     pub next: u32,

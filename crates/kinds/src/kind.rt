@@ -7,7 +7,7 @@ use crate::acts::{Found, Notes, PutAct, TakeAct};
 use records::entries::Swap;
 
 // The two words of a tray as its kind opens it.
-#[derive(Clone, Copy)]
+#[derive(Clone, Copy, PartialEq, Eq, Debug)]
 pub struct Opening {
     pub first: u32,
     pub second: u32,

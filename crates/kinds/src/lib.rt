@@ -2,5 +2,6 @@
 #![tactic(auto)]
 
 pub mod acts;
+pub mod addresses;
 pub mod kind;
 pub mod pair;

@@ -6,7 +6,7 @@ use Rattle.records.specs.Tables.{Tables}
 use Rattle.kinds.specs.Plans.{Plan, pick}
 use Rattle.queue.specs.Queue.{queue_plan}
 use Rattle.stack.specs.Stack.{stack_plan}
-use Rattle.board.specs.Numbers.{Numbers, numbers}
+use Rattle.board.specs.Numbers.{Numbers}
 use Rattle.board.specs.Lays.{Laid, lays}
 use Rattle.board.specs.Phases.{started}
 use Rattle.orders.specs.declared.order.Order.{Order}
@@ -18,27 +18,13 @@ use Rattle.obey.specs.declared.phase.Reply.{Reply}
 use Rattle.obey.specs.declared.phase.Reply.TheVariants.{Laid as LaidTray, Started}
 use Rattle.obey.specs.declared.phase.Obeyed.{Obeyed}
 
--- the board by its phase and its numbers
-pub data Phased : Type 0 where
-  laid_out : Numbers → Phased
-  running : Numbers → Phased
-
-abbrev pub phased : Phase → Phased
-phased (LaidOut l) = laid_out (numbers l.board)
-phased (Running r) = running (numbers r.board)
-
--- the board after an order, and the order's answer
-pub record Replied : Type 0 where
-  pub phase : Phased
-  pub reply : Result Reply Refusal
-
-abbrev pub replied : Obeyed → Replied
-replied o = record { phase = phased o.phase; reply = o.reply }
-
--- that, and the tables
+-- an order's answer with the board after it, and the tables
 pub record Done : Type 0 where
-  pub done : Replied
+  pub done : Obeyed
   pub tables : Tables
+
+abbrev pub did : Obeyed → Tables → Done
+did obeyed t = record { done = obeyed; tables = t }
 
 -- the kinds of tray that the program has: number 0 is the queue, and 1 the stack
 abbrev pub depot_plan : ℕ → Plan
@@ -49,27 +35,27 @@ laid_reply (Ok tray) = Ok (LaidTray tray)
 laid_reply (Err e) = Err e
 
 abbrev pub after_lay : Laid → Done
-after_lay l = record { done = record { phase = laid_out l.board; reply = laid_reply l.answer }; tables = l.tables }
+after_lay l = did (record { phase = LaidOut l.board; reply = laid_reply l.answer }) l.tables
 
 -- trays are laid before the start
-abbrev pub lays_in : Phased → ℕ → Tables → Done
-lays_in (laid_out n) kind t = after_lay (lays depot_plan n t kind)
-lays_in (running n) kind t = record { done = record { phase = running n; reply = Err OutOfPhase }; tables = t }
+abbrev pub lays_in : Phase → ℕ → Tables → Done
+lays_in (LaidOut n) kind t = after_lay (lays depot_plan n t kind)
+lays_in (Running n) kind t = did (record { phase = Running n; reply = Err OutOfPhase }) t
 
-abbrev pub after_start : Result Numbers (Numbers × Refusal) → Replied
-after_start (Ok n) = record { phase = running n; reply = Ok Started }
-after_start (Err e) = record { phase = laid_out e.0; reply = Err e.1 }
+abbrev pub after_start : Result Numbers (Numbers × Refusal) → Obeyed
+after_start (Ok n) = record { phase = Running n; reply = Ok Started }
+after_start (Err e) = record { phase = LaidOut e.0; reply = Err e.1 }
 
 -- and the board starts once
-abbrev pub starts_in : Phased → ℕ → Replied
-starts_in (laid_out n) crew = after_start (started n crew)
-starts_in (running n) crew = record { phase = running n; reply = Err OutOfPhase }
+abbrev pub starts_in : Phase → ℕ → Obeyed
+starts_in (LaidOut n) crew = after_start (started n crew)
+starts_in (Running n) crew = record { phase = Running n; reply = Err OutOfPhase }
 
-abbrev pub does : Phased → Result Order Refusal → Tables → Done
+abbrev pub does : Phase → Result Order Refusal → Tables → Done
 does p (Ok LayQueue) t = lays_in p 0 t
 does p (Ok LayStack) t = lays_in p 1 t
-does p (Ok (Start crew)) t = record { done = starts_in p crew; tables = t }
-does p (Err e) t = record { done = record { phase = p; reply = Err e }; tables = t }
+does p (Ok (Start crew)) t = did (starts_in p crew) t
+does p (Err e) t = did (record { phase = p; reply = Err e }) t
 
-abbrev pub obeys : Phased → List ℕ → Tables → Done
+abbrev pub obeys : Phase → List ℕ → Tables → Done
 obeys p text t = does p (order_of text) t

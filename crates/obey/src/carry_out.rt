@@ -1,57 +1,47 @@
 // One order, carried out on the board.
 ghost use Rattle.std.specs.Prelude.{◌≡◌, Err};
-ghost use Rattle.refusals.specs.declared.refusal.Refusal.TheVariants.{OutOfPhase};
-ghost use Rattle.records.specs.Tables.{tables};
-ghost use Rattle.obey.specs.Obeys.{phased, replied, lays_in, starts_in, obeys};
+ghost use Rattle.board.specs.Lent.{held, SameTables};
+ghost use Rattle.obey.specs.Obeys.{did, lays_in, starts_in, obeys};
 
 use crate::kinds_used::{QUEUE, STACK};
 use crate::phase::{Obeyed, Phase, Reply};
+use board::tables::LentTables;
 use orders::order::Order;
 use orders::read_order;
-use records::entries::{Descriptor, Node};
-use records::scanner::Scanner;
 use refusals::refusal::Refusal;
 
-// An order that does not belong to this phase.
-fn out_of_phase(phase: Phase) -> Obeyed
-    ensures { replied result ≡ record { phase = phased phase; reply = Err OutOfPhase } }
-{
-    Obeyed {
-        phase,
-        reply: Err(Refusal::OutOfPhase),
+impl Obeyed {
+    // A refused order, and the board in the phase that it was in.
+    fn refused(phase: Phase, refusal: Refusal) -> Obeyed
+        ensures { result ≡ record { phase = phase; reply = Err refusal } }
+    {
+        Obeyed {
+            phase,
+            reply: Err(refusal),
+        }
     }
 }
 
 // Lays a tray while the board is laid out.
-fn lay_tray(
-    phase: Phase,
-    kind: u32,
-    words: &mut [u32],
-    nodes: &mut [Node],
-    descriptors: &[Descriptor],
-    scanners: &[Scanner],
-) -> Obeyed
-    ensures answer { replied result ≡ (lays_in (phased phase) kind (tables words.old nodes.old descriptors.now scanners.now)).done }
-    ensures after { tables words.new nodes.new descriptors.now scanners.now ≡ (lays_in (phased phase) kind (tables words.old nodes.old descriptors.now scanners.now)).tables }
+fn lay_tray(phase: Phase, kind: u32, tables: &mut LentTables<'_>) -> Obeyed
+    ensures after { did result (held tables.new) ≡ lays_in phase kind (held tables.old) }
+    ensures same { SameTables tables.old tables.new }
 {
     match phase {
         Phase::LaidOut(mut layout) => {
-            let reply = match layout.lay(words, nodes, descriptors, scanners, kind) {
-                Ok(tray) => Ok(Reply::Laid(tray)),
-                Err(refusal) => Err(refusal),
-            };
+            let reply = layout.lay(tables, kind).map(Reply::Laid);
             Obeyed {
                 phase: Phase::LaidOut(layout),
                 reply,
             }
         }
-        started => out_of_phase(started),
+        started => Obeyed::refused(started, Refusal::OutOfPhase),
     }
 }
 
 // Starts the board while it is laid out.
 fn start_board(phase: Phase, crew: u32) -> Obeyed
-    ensures { replied result ≡ starts_in (phased phase) crew }
+    ensures { result ≡ starts_in phase crew }
 {
     match phase {
         Phase::LaidOut(layout) => match layout.start(crew) {
@@ -59,34 +49,21 @@ fn start_board(phase: Phase, crew: u32) -> Obeyed
                 phase: Phase::Running(running),
                 reply: Ok(Reply::Started),
             },
-            Err(back) => Obeyed {
-                phase: Phase::LaidOut(back.0),
-                reply: Err(back.1),
-            },
+            Err((layout, refusal)) => Obeyed::refused(Phase::LaidOut(layout), refusal),
         },
-        running => out_of_phase(running),
+        running => Obeyed::refused(running, Refusal::OutOfPhase),
     }
 }
 
 // Carries out the order that the text says.
-pub fn carry_out(
-    phase: Phase,
-    text: &[u8],
-    words: &mut [u32],
-    nodes: &mut [Node],
-    descriptors: &[Descriptor],
-    scanners: &[Scanner],
-) -> Obeyed
-    ensures answer { replied result ≡ (obeys (phased phase) text.now (tables words.old nodes.old descriptors.now scanners.now)).done }
-    ensures after { tables words.new nodes.new descriptors.now scanners.now ≡ (obeys (phased phase) text.now (tables words.old nodes.old descriptors.now scanners.now)).tables }
+pub fn carry_out(phase: Phase, text: &[u8], tables: &mut LentTables<'_>) -> Obeyed
+    ensures after { did result (held tables.new) ≡ obeys phase text.now (held tables.old) }
+    ensures same { SameTables tables.old tables.new }
 {
     match read_order(text) {
-        Ok(Order::LayQueue) => lay_tray(phase, QUEUE, words, nodes, descriptors, scanners),
-        Ok(Order::LayStack) => lay_tray(phase, STACK, words, nodes, descriptors, scanners),
+        Ok(Order::LayQueue) => lay_tray(phase, QUEUE, tables),
+        Ok(Order::LayStack) => lay_tray(phase, STACK, tables),
         Ok(Order::Start { crew }) => start_board(phase, crew),
-        Err(refusal) => Obeyed {
-            phase,
-            reply: Err(refusal),
-        },
+        Err(refusal) => Obeyed::refused(phase, refusal),
     }
 }

@@ -11,7 +11,7 @@ pub enum Phase {
 }
 
 // What an accepted order answers.
-#[derive(Clone, Copy)]
+#[derive(Clone, Copy, PartialEq, Eq, Debug)]
 pub enum Reply {
     // the number of the tray that was laid
     Laid(u32),

@@ -1,22 +1,23 @@
 -- The queue. The tray's words, head and tail, name nodes; the parcels follow head's node, which carries none. Tail's node is the last or the one before it.
-use Rattle.std.specs.Prelude.{ℕ, zero, suc, ◌+◌, ◌*◌, min, Bool, true, false, cond, length, Some, ◌==◌}
+use Rattle.std.specs.Prelude.{ℕ, zero, suc, ◌+◌, ◌*◌, Bool, true, false, cond, length, Some, ◌==◌}
 use Rattle.kinds.specs.declared.acts.Notes.{Notes}
 use Rattle.kinds.specs.declared.acts.PutAct.{PutAct}
 use Rattle.kinds.specs.declared.acts.PutAct.TheVariants.{Read as PutRead, Tidy as PutTidy, Commit as PutCommit}
 use Rattle.kinds.specs.declared.acts.TakeAct.{TakeAct}
 use Rattle.kinds.specs.declared.acts.TakeAct.TheVariants.{Read as TakeRead, Tidy as TakeTidy, Commit as TakeCommit, Empty}
+use Rattle.kinds.specs.Addresses.{first_word_at, second_word_at, next_word_at}
 use Rattle.kinds.specs.Plans.{Plan, start}
 use Rattle.kinds.specs.Walks.{walk}
 
--- The addresses of head, of tail and of a node's next word; of a tray or a node that is not there, perhaps the largest number.
+-- the addresses of head, of tail and of a node's next word
 abbrev pub head_at : ℕ → ℕ
-head_at t = min (2 * t) 4294967295
+head_at t = first_word_at t
 
 abbrev pub tail_at : ℕ → ℕ
-tail_at t = min (2 * t + 1) 4294967295
+tail_at t = second_word_at t
 
 abbrev pub next_at : ℕ → ℕ
-next_at n = min (64 + n) 4294967295
+next_at n = next_word_at n
 
 -- A put of node n that has read the tail and there the next word, y. Where y names a node, tail has fallen behind, and is set right first.
 abbrev pub put_end : ℕ → ℕ → ℕ → ℕ → ℕ → PutAct

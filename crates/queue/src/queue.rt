@@ -1,9 +1,12 @@
 // A queue: its words, head and tail, name a leading node that carries no parcel. A put links its node behind the last one, and
 // then tail is set right; a take makes head's next node the leading one.
 ghost use Rattle.std.specs.Prelude.{◌≡◌};
-ghost use Rattle.queue.specs.Queue.{head_at, tail_at, next_at, queue_plan};
+ghost use Rattle.queue.specs.Queue.{tail_at, queue_plan};
 
 use kinds::acts::{Found, Notes, PutAct, TakeAct};
+use kinds::addresses::{
+    first_word_at as head_at, next_word_at as next_at, second_word_at as tail_at,
+};
 use kinds::kind::{Opening, TrayKind};
 use records::entries::Swap;
 
@@ -17,24 +20,6 @@ impl Queue {
     pub const MOST_ACTS: u32 = 10;
 }
 
-fn head_at(tray: u32) -> u32
-    ensures { result ≡ head_at tray }
-{
-    2u32.saturating_mul(tray)
-}
-
-fn tail_at(tray: u32) -> u32
-    ensures { result ≡ tail_at tray }
-{
-    2u32.saturating_mul(tray).saturating_add(1)
-}
-
-fn next_at(node: u32) -> u32
-    ensures { result ≡ next_at node }
-{
-    64u32.saturating_add(node)
-}
-
 // Sets tail right, from the node `old` to the node `new` behind it.
 fn tail_swap(tray: u32, old: u32, new: u32) -> Swap
     ensures { result ≡ record { address = tail_at tray; old = old; new = new } }
@@ -43,6 +28,18 @@ fn tail_swap(tray: u32, old: u32, new: u32) -> Swap
         address: tail_at(tray),
         old,
         new,
+    }
+}
+
+// The notes of a stage at which the words `one` and `two` were read, and nothing else is noted.
+fn noted(stage: u32, one: u32, two: u32) -> Notes
+    ensures { result ≡ record { stage = stage; one = one; two = two; three = 0; parcel = 0 } }
+{
+    Notes {
+        stage,
+        one,
+        two,
+        ..Notes::START
     }
 }
 
@@ -98,40 +95,17 @@ impl TrayKind for Queue {
     // Where the second read of tail finds another node, the next word that was noted may be out of date.
     fn put_noted(_kind: u32, notes: Notes, found: Found) -> Notes {
         match notes.stage {
-            0 => Notes {
-                stage: 1,
-                one: found.word,
-                ..Notes::START
-            },
-            1 => Notes {
-                stage: 2,
-                one: notes.one,
-                two: found.word,
-                ..Notes::START
-            },
-            2 if found.word == notes.one => Notes {
-                stage: 3,
-                one: notes.one,
-                two: notes.two,
-                ..Notes::START
-            },
+            0 => noted(1, found.word, NIL),
+            1 => noted(2, notes.one, found.word),
+            2 if found.word == notes.one => noted(3, notes.one, notes.two),
             _ => Notes::START,
         }
     }
 
     fn take_noted(_kind: u32, notes: Notes, found: Found) -> Notes {
         match notes.stage {
-            0 => Notes {
-                stage: 1,
-                one: found.word,
-                ..Notes::START
-            },
-            1 => Notes {
-                stage: 2,
-                one: notes.one,
-                two: found.word,
-                ..Notes::START
-            },
+            0 => noted(1, found.word, NIL),
+            1 => noted(2, notes.one, found.word),
             2 => Notes {
                 stage: 3,
                 three: found.word,

@@ -4,7 +4,8 @@ use Rattle.refusals.specs.declared.refusal.Refusal.{Refusal}
 use Rattle.records.specs.Tables.{Tables}
 use Rattle.lines.specs.Lines.{line_of}
 use Rattle.lines.specs.Places.{end_at, written_at}
-use Rattle.obey.specs.Obeys.{Replied, obeys}
+use Rattle.obey.specs.declared.phase.Obeyed.{Obeyed}
+use Rattle.obey.specs.Obeys.{Done, did, obeys}
 use Rattle.obey.specs.Prints.{values}
 use Rattle.session.specs.declared.fault.Played.{Played}
 use Rattle.session.specs.Plays.{State, state, Ended, ended, whole, broken, on_line, after_order, orders_from}
@@ -20,20 +21,25 @@ module _ (n : ℕ) (left : List (List ℕ)) (s : State) (all : Ended) (inv : ord
 
   -- the order does r and leaves the tables t, and its line leaves `out`
   module _ (order : ℕ) (here : order ≡ n) (text : List ℕ) (rest : List (List ℕ)) (is : left ≡ text ∷ rest)
-      (r : Replied) (did : r ≡ (obeys s.phase text s.tables).done)
-      (t : Tables) (leaves : t ≡ (obeys s.phase text s.tables).tables)
+      (r : Obeyed) (t : Tables) (obeyed : did r t ≡ obeys s.phase text s.tables)
       (out : List ℕ) (wrote : out ≡ written_at s.out s.at (line_of order (values r.reply))) where
     next : after_order order (obeys s.phase text s.tables) s (orders_from (order + 1) rest) ≡ all
     next = (λ j. orders_from (here j) (sym is j) s) ∙ inv
 
+    does : r ≡ (obeys s.phase text s.tables).done
+    does = ap (λ (d : Done). d.done) obeyed
+
+    leaves : t ≡ (obeys s.phase text s.tables).tables
+    leaves = ap (λ (d : Done). d.tables) obeyed
+
     writes : out ≡ written_at s.out s.at (line_of order (values (obeys s.phase text s.tables).done.reply))
-    writes = wrote ∙ ap (λ (x : Replied). written_at s.out s.at (line_of order (values x.reply))) did
+    writes = wrote ∙ ap (λ (x : Obeyed). written_at s.out s.at (line_of order (values x.reply))) does
 
     line : (e : Result ℕ Refusal) → e ≡ end_at s.out s.at (line_of order (values r.reply))
         → on_line order e (state r.phase t s.at out) (λ end. orders_from (order + 1) rest (state r.phase t end out)) ≡ all
     line e at =
-        let ends = at ∙ ap (λ (x : Replied). end_at s.out s.at (line_of order (values x.reply))) did in
-        (λ j. on_line order (ends j) (state (did j).phase (leaves j) s.at (writes j)) (λ end. orders_from (order + 1) rest (state (did j).phase (leaves j) end (writes j)))) ∙ next
+        let ends = at ∙ ap (λ (x : Obeyed). end_at s.out s.at (line_of order (values x.reply))) does in
+        (λ j. on_line order (ends j) (state (does j).phase (leaves j) s.at (writes j)) (λ end. orders_from (order + 1) rest (state (does j).phase (leaves j) end (writes j)))) ∙ next
 
     pub goes_on : (end : ℕ) → Ok end ≡ end_at s.out s.at (line_of order (values r.reply)) → (m : ℕ) → m ≡ order + 1 → orders_from m rest (state r.phase t end out) ≡ all
     goes_on end at m e = ap (λ k. orders_from k rest (state r.phase t end out)) e ∙ line (Ok end) at

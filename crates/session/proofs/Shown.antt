@@ -8,7 +8,7 @@ use Rattle.index.specs.Texts.{texts}
 use Rattle.index.proofs.Opened.{refused_as}
 use Rattle.lines.specs.Lines.{line_of}
 use Rattle.lines.specs.Places.{end_at, written_at}
-use Rattle.obey.specs.Obeys.{laid_out}
+use Rattle.obey.specs.declared.phase.Phase.TheVariants.{LaidOut}
 use Rattle.session.specs.declared.fault.Played.{Played}
 use Rattle.session.specs.Plays.{State, state, Ended, damaged, heading, orders_from, on_texts, on_heading, session_of}
 use Rattle.session.specs.Laws.{Shows}
@@ -43,7 +43,7 @@ after_heading file out s (Err e) is h =
 
 with_heading : (file out : List ℕ) (n : Numbers) (t : Tables) (r : Result ℕ Refusal) → end_at out 0 heading ≡ r → Shows file out (on_heading r file n t (written_at out 0 heading)).out (on_heading r file n t (written_at out 0 heading)).answer
 with_heading file out n t (Ok end) is =
-    after_heading file out (state (laid_out n) t end (written_at out 0 heading)) (texts file) refl ((prints out out [] heading 0 (starts out)).ends end is)
+    after_heading file out (state (LaidOut n) t end (written_at out 0 heading)) (texts file) refl ((prints out out [] heading 0 (starts out)).ends end is)
 with_heading file out n t (Err cause) is =
     let p = (prints out out [] heading 0 (starts out)).stays cause is in
     record { within = omega arith; behind = p.behind; front = inl refl }

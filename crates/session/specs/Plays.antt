@@ -9,17 +9,19 @@ use Rattle.index.specs.Texts.{texts}
 use Rattle.lines.specs.Lines.{line_of}
 use Rattle.lines.specs.Places.{end_at, written_at}
 use Rattle.session.specs.declared.fault.Played.{Played}
-use Rattle.obey.specs.Obeys.{Phased, laid_out, Done, obeys}
+use Rattle.obey.specs.declared.phase.Phase.{Phase}
+use Rattle.obey.specs.declared.phase.Phase.TheVariants.{LaidOut}
+use Rattle.obey.specs.Obeys.{Done, obeys}
 use Rattle.obey.specs.Prints.{values}
 
 -- the board in its phase, the tables, and the output, of which the first `at` bytes are written
 pub record State : Type 0 where
-  pub phase : Phased
+  pub phase : Phase
   pub tables : Tables
   pub at : ℕ
   pub out : List ℕ
 
-abbrev pub state : Phased → Tables → ℕ → List ℕ → State
+abbrev pub state : Phase → Tables → ℕ → List ℕ → State
 state phase t at out = record { phase = phase; tables = t; at = at; out = out }
 
 -- a session that is over: what it answers, the output and the tables
@@ -67,7 +69,7 @@ on_texts (Err e) s =
     ended (damaged (end_at s.out s.at (line_of 0 (number_of e ∷ []))) e s.at) (written_at s.out s.at (line_of 0 (number_of e ∷ []))) s.tables
 
 abbrev pub on_heading : Result ℕ Refusal → List ℕ → Numbers → Tables → List ℕ → Ended
-on_heading (Ok end) file n t out = on_texts (texts file) (state (laid_out n) t end out)
+on_heading (Ok end) file n t out = on_texts (texts file) (state (LaidOut n) t end out)
 on_heading (Err cause) file n t out = ended (broken 0 cause 0) out t
 
 abbrev pub on_board : Result Numbers Refusal → List ℕ → List ℕ → Tables → Ended

@@ -5,13 +5,13 @@ ghost use Rattle.lines.specs.Lines.{line_of};
 ghost use Rattle.lines.specs.Places.{end_at, written_at};
 ghost use Rattle.records.specs.Tables.{tables};
 ghost use Rattle.index.specs.Opened.{texts_of};
-ghost use Rattle.board.specs.Numbers.{numbers};
-ghost use Rattle.obey.specs.Obeys.{laid_out};
+ghost use Rattle.board.specs.Lent.{held, SameTables};
 ghost use Rattle.session.specs.Laws.{Shows};
 ghost use Rattle.session.specs.Plays.{state, ended, broken, damaged, orders_from, plays, session_of};
 
 use crate::fault::{Played, SessionFault};
 use board::board::{Layout, SCANNERS, TRAY_WORDS};
+use board::tables::LentTables;
 use index::file::SessionFile;
 use lines::{Line, put};
 use obey::carry_out::carry_out;
@@ -43,17 +43,15 @@ fn play_orders(
     layout: Layout<Kinds>,
     out: &mut [u8],
     start: usize,
-    words: &mut [u32],
-    nodes: &mut [Node],
-    descriptors: &[Descriptor],
-    scanners: &[Scanner],
+    tables: &mut LentTables<'_>,
 ) -> Played
-    ensures { ended result out.new (tables words.new nodes.new descriptors.now scanners.now) ≡ orders_from 1 (texts_of file.entry) (state (laid_out (numbers layout.board)) (tables words.old nodes.old descriptors.now scanners.now) start out.old) }
+    ensures answer { ended result out.new (held tables.new) ≡ orders_from 1 (texts_of file.entry) (state (Phase.LaidOut layout) (held tables.old) start out.old) }
+    ensures same { SameTables tables.old tables.new }
 {
     let mut at = start;
     let mut phase = Phase::LaidOut(layout);
     for (order, text) in (1u32..).zip(file.texts()) {
-        let obeyed = carry_out(phase, text, words, nodes, descriptors, scanners);
+        let obeyed = carry_out(phase, text, tables);
         phase = obeyed.phase;
         match print_reply(out, at, order, obeyed.reply) {
             Ok(end) => at = end,
@@ -98,7 +96,15 @@ fn play_on(
         Err(cause) => return ended_by(0, cause, 0),
     };
     match SessionFile::open(bytes) {
-        Ok(file) => play_orders(file, layout, out, at, words, nodes, descriptors, scanners),
+        Ok(file) => {
+            let mut tables = LentTables {
+                words,
+                nodes,
+                descriptors,
+                scanners,
+            };
+            play_orders(file, layout, out, at, &mut tables)
+        }
         Err(refusal) => print_damage(out, at, refusal),
     }
 }

@@ -1,15 +1,16 @@
 -- The stack: its parcels run from the tray's first word along next words, and the parcel put in last is the first that is taken.
-use Rattle.std.specs.Prelude.{ℕ, zero, suc, ◌*◌, min, true, false, None}
+use Rattle.std.specs.Prelude.{ℕ, zero, suc, ◌*◌, true, false, None}
 use Rattle.kinds.specs.declared.acts.PutAct.{PutAct}
 use Rattle.kinds.specs.declared.acts.PutAct.TheVariants.{Read as PutRead, Commit as PutCommit}
 use Rattle.kinds.specs.declared.acts.TakeAct.{TakeAct}
 use Rattle.kinds.specs.declared.acts.TakeAct.TheVariants.{Read as TakeRead, Commit as TakeCommit, Empty}
+use Rattle.kinds.specs.Addresses.{first_word_at}
 use Rattle.kinds.specs.Plans.{Plan}
 use Rattle.kinds.specs.Walks.{walk}
 
--- the address of the word that leads to the first node; of a tray that is not there, the largest number
+-- the address of the word that leads to the first node
 abbrev pub top_at : ℕ → ℕ
-top_at t = min (2 * t) 4294967295
+top_at t = first_word_at t
 
 -- A put reads that word, lets its node lead on to what it found, and then swaps its node in: by its stage and what it found.
 abbrev pub put_step : ℕ → ℕ → ℕ → ℕ → PutAct

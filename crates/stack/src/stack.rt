@@ -1,8 +1,8 @@
-// The parcels run from the tray's first word along the next words of its nodes.
-ghost use Rattle.std.specs.Prelude.{◌≡◌};
-ghost use Rattle.stack.specs.Stack.{stack_plan, top_at};
+// The parcels run from the tray's first word, top, along the next words of its nodes.
+ghost use Rattle.stack.specs.Stack.{stack_plan};
 
 use kinds::acts::{Found, Notes, PutAct, TakeAct};
+use kinds::addresses::first_word_at as top_at;
 use kinds::kind::{Opening, TrayKind};
 use records::entries::Swap;
 
@@ -11,13 +11,6 @@ pub struct Stack;
 impl Stack {
     // One read and one commit, when undisturbed.
     pub const MOST_ACTS: u32 = 2;
-}
-
-// The address of the word that leads to the first node.
-fn top_at(tray: u32) -> u32
-    ensures { result ≡ top_at tray }
-{
-    2u32.saturating_mul(tray)
 }
 
 impl TrayKind for Stack {
