@@ -9,6 +9,13 @@ use records::entries::Descriptor;
 use refusals::refusal::Refusal;
 use words::word::Word;
 
+// The numbers of the results that are no marks.
+pub const UNDECIDED: u32 = 1;
+
+pub const SUCCESS: u32 = 2;
+
+pub const SECOND_FAILED: u32 = 3;
+
 // What a descriptor's result says.
 #[derive(Clone, Copy, PartialEq, Eq, Debug)]
 pub enum Outcome {
@@ -25,9 +32,9 @@ impl Outcome {
         ensures { MatchResult result (λ o. outcome_of descriptor number ≡ Some o) (λ e. (e ≡ Torn) × (outcome_of descriptor number ≡ None)) }
     {
         match number {
-            1 => Ok(Outcome::Undecided),
-            2 => Ok(Outcome::Success),
-            3 => Ok(Outcome::SecondFailed),
+            UNDECIDED => Ok(Outcome::Undecided),
+            SUCCESS => Ok(Outcome::Success),
+            SECOND_FAILED => Ok(Outcome::SecondFailed),
             _ => match Word::try_from(number)? {
                 Word::Mark {
                     scanner,

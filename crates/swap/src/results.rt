@@ -3,17 +3,13 @@ ghost use Rattle.std.specs.Prelude.{◌≡◌};
 ghost use Rattle.swap.specs.Results.{at_try_to_fail, at_decide, at_write_success};
 
 use crate::ends::after_decision;
-use memory::meaning::Outcome;
+use memory::meaning::{Outcome, SECOND_FAILED, SUCCESS};
 use memory::view::Memory;
 use refusals::refusal::Refusal;
 use swap_access::effect::{Effect, Write, end_of, write_nothing};
 use swap_access::found::outcome_at;
 use swap_access::position::{Next, Position};
 use words::word::Word;
-
-const SUCCESS: u32 = 2;
-
-const SECOND_FAILED: u32 = 3;
 
 // result: undecided → second failed.
 pub fn at_try_to_fail(memory: &Memory<'_>, descriptor: u32) -> Result<Effect, Refusal>
