@@ -32,9 +32,3 @@ returns-in_default c =
       answer = c.in_ok-count.ensures;
       after = set-get_or c.loop-parcel.parcels c.loop-parcel.parcel-index 0 ∙ copy_ends _ _ _ _ _ _ c.loop-parcel.invariant room (ap Ok (sym c.in_default.is) ∙ c.in_ok-node.ensures);
     }
-
--- there is no more room
-pub returns-after-loop-parcel : goal.returns-after-loop-parcel
-returns-after-loop-parcel c =
-    let full : c.loop-parcel.parcel-index ≡ length c.args.parcels.now = omega arith in
-    record { answer = c.in_ok-count.ensures; after = copy_full _ _ _ _ _ _ c.loop-parcel.invariant full }

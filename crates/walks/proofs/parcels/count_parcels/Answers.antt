@@ -28,6 +28,3 @@ returns-in_err-node c =
     let h : c.loop-count.count < c.args.memory.now.nodes_taken + 1 = omega arith in
     let error = err_from_is_err_and c.from_residual.result c.from_residual.ensures.1 in
     error.1 ∙ ap Err error.2 ∙ count_stops c.args.memory.now _ _ _ _ c.loop-count.invariant h _ c.in_err-node.ensures
-
-pub returns : goal.returns
-returns c = absurd (omega arith)
