@@ -31,6 +31,7 @@ pub struct SessionFile<'a> {
     bytes: &'a [u8],
     // where each text lies
     index: &'a [[u8; 4]],
+    // the whole check holds, and the pairs are those of the file
     ghost checked: { sound bytes.now ≡ true },
     ghost pairs: { index.now ≡ pairs_in bytes.now },
 }

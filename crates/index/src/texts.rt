@@ -10,6 +10,7 @@ pub struct Texts<'a> {
     pub(crate) bytes: &'a [u8],
     // where each text that is left lies
     pub(crate) index: &'a [[u8; 4]],
+    // each of them in the file
     ghost within: { (i : ℕ) → i < length index.now → number_at (get_or index.now i []) 0 + number_at (get_or index.now i []) 2 ≤ length bytes.now },
 }
 

@@ -15,7 +15,7 @@ fn first_feed(text: &[u8]) -> Option<usize>
 // The lines of a text that are left, one after the other.
 #[derive(Drop)]
 pub(crate) struct Lines<'a> {
-    pub(crate) left: &'a [u8],
+    left: &'a [u8],
 }
 
 impl<'a> Iterator for Lines<'a> {
