@@ -8,3 +8,4 @@ pub mod Lays
 pub mod Laws
 pub mod Phases
 pub mod Lent
+pub mod Kept

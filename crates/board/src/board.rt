@@ -30,11 +30,12 @@ impl Model for Board {
 
     ghost Value = { Numbers };
 
-    ghost use Rattle.board.specs.Views.{numbers, BoardKept};
+    ghost use Rattle.board.specs.Kept.{BoardKept};
+    ghost use Rattle.board.specs.Views.{numbers};
 
     ghost view = { numbers };
 
-    ghost invariant = { BoardKept };
+    ghost invariant = { λ b. BoardKept (numbers b) };
 }
 
 // A board that is laid out: trays may be added to it. Its trays are of the kinds of K.

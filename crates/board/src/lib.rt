@@ -3,6 +3,7 @@
 
 pub mod begin;
 pub mod board;
+pub mod bounds;
 pub mod kinds_laid;
 pub mod lay;
 mod room;

@@ -20,11 +20,12 @@ impl Model for Room {
 
     ghost Value = { Counts };
 
-    ghost use Rattle.board.specs.Views.{counts, RoomKept};
+    ghost use Rattle.board.specs.Kept.{RoomKept};
+    ghost use Rattle.board.specs.Views.{counts};
 
     ghost view = { counts };
 
-    ghost invariant = { RoomKept };
+    ghost invariant = { λ r. RoomKept (counts r) };
 }
 
 impl Room {

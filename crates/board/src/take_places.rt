@@ -1,4 +1,5 @@
-// Places of the node table and of the descriptor table, taken by a board: both by the one generic table of places.
+// Places of the node table and of the descriptor table, taken by a board: both by the one generic table of places. The two
+// functions name a table and a refusal each.
 ghost use Rattle.std.specs.Prelude.{◌≡◌, length};
 ghost use Rattle.board.specs.Takes.{takes_node, numbers_with_node, nodes_with_node, takes_descriptor, numbers_with_descriptor, descriptors_with_descriptor};
 

@@ -5,7 +5,8 @@ ghost use Rattle.memory.specs.Lent.{seen_through};
 use crate::view::Memory;
 use records::entries::{Descriptor, Node};
 
-// The tray words, the nodes and the descriptors, with how many places of two of them are taken.
+// The tray words, the nodes and the descriptors, with how many places of two of them are taken. The tables are lent whole, and
+// the counts are the board's own numbers: so a count stands beside a table.
 #[derive(Drop)]
 pub struct MemoryMut<'a> {
     pub words: &'a mut [u32],

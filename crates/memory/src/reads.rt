@@ -8,7 +8,7 @@ use records::entries::{Descriptor, Node};
 use refusals::refusal::Refusal;
 
 impl Memory<'_> {
-    // The node at a place.
+    // The node at a place. This and the next name a table each; how a place is found is said once, by `Taken`.
     pub fn node(&self, place: u32) -> Result<Node, Refusal>
         ensures { result ≡ node_at self.now place }
     {

@@ -10,7 +10,7 @@ pub enum Phase {
     Running(Running<Kinds>),
 }
 
-// What an accepted order answers.
+// What an accepted order answers: one answer for each order, so the one without a number is no `None`.
 #[derive(Clone, Copy, PartialEq, Eq, Debug)]
 pub enum Reply {
     // the number of the tray that was laid

@@ -12,7 +12,7 @@ use crate::lines::lines_of;
 use index::file::MOST;
 use std::alloc::Global;
 
-// How many lines a text has, and how many bytes they hold together.
+// How many lines a text has, and how many bytes they hold together: one pass over the lines counts both.
 #[derive(Clone, Copy)]
 struct Sizes {
     count: usize,

@@ -1,6 +1,7 @@
 // The records of the node table and of the descriptor table.
 
-// A node of a tray: the word that leads on from it, and a parcel's number.
+// A node of a tray: the word that leads on from it, and a parcel's number. The tables are lent memory, so a word is a number
+// that names a place, and no reference.
 #[derive(Clone, Copy, PartialEq, Eq, Debug)]
 pub struct Node {
     pub next: u32,

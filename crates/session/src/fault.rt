@@ -27,7 +27,8 @@ impl fmt::Display for SessionFault {
 
 impl Error for SessionFault {}
 
-// A session that is over: how many bytes it wrote, and why it ended early, if it did.
+// A session that is over: how many bytes it wrote, and why it ended early, if it did. What was written stands also where the
+// session ended early, so this is no Result.
 #[derive(Clone, Copy, PartialEq, Eq, Debug)]
 pub struct Played {
     pub written: usize,

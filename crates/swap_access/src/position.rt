@@ -1,6 +1,6 @@
 // Where a scanner stands in a two-word swap.
 
-// What a helper met that made it help.
+// What a helper met that made it help. Both cases were met, so it is no Option: `None` would not say what.
 #[derive(Clone, Copy, PartialEq, Eq, Debug)]
 pub enum Met {
     // the descriptor, at its first address
@@ -43,7 +43,8 @@ pub enum Position {
     GiveBack {
         descriptor: u32,
     },
-    // result: undecided → the mark of the scanner `mark`; placed: that is the own mark, which now stands at p2
+    // result: undecided → the mark of the scanner `mark`; placed: that is the own mark, which now stands at p2. The mark is
+    // needed in both cases, so the flag is no Option of it.
     Decide {
         descriptor: u32,
         mark: u32,
@@ -80,7 +81,7 @@ pub enum End {
     Helped,
 }
 
-// Where the scanner stands after an access.
+// Where the scanner stands after an access. No Result and no ControlFlow: an end is no error, and most ends are what was wanted.
 #[derive(Clone, Copy, PartialEq, Eq, Debug)]
 pub enum Next {
     At(Position),
