@@ -103,6 +103,7 @@ def bare_derives():
     """Types with no equality."""
     found = []
     for file, text in TEXTS.items():
+        text = "\n".join(code(line) for line in text.splitlines())
         for derive, name in re.findall(r"(?:#\[derive\(([^)]*)\)\]\n)?(?:pub(?:\(crate\))? )?(?:struct|enum) (\w+)", text):
             if "PartialEq" not in derive:
                 found.append(f"{file}: {name}: {derive or 'no derive'}")

@@ -24,9 +24,6 @@ nodes_with_node n nodes = table_after nodes n.nodes.taken zero_node
 abbrev pub takes_descriptor : Numbers → Result ℕ Refusal
 takes_descriptor n = takes n.descriptors DescriptorsFull
 
-abbrev pub with_descriptors_taken : Numbers → ℕ → Numbers
-with_descriptors_taken n taken = record n { descriptors = record n.descriptors { taken = taken } }
-
 abbrev pub numbers_with_descriptor : Numbers → Numbers
 numbers_with_descriptor n = record n { descriptors = with_place n.descriptors }
 

@@ -1,5 +1,5 @@
 // Every board keeps its counts within its tables. Its type says so, and the functions below say it to callers, to whom the
-// fields are hidden. They do nothing when they run.
+// fields are hidden. They do nothing when they run; no other call looks at both tables' counts and leaves the board as it is.
 ghost use Rattle.std.specs.Prelude.{◌≤◌};
 ghost use Rattle.board.specs.Kept.{Kept, RoomKept};
 

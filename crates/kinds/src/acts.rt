@@ -1,8 +1,8 @@
 // What a request at a tray does next, and what it notes.
 use records::entries::Swap;
 
-// What a request has noted of its reads; `stage` tells how far it has come, 0 at the start. It is a number, since the notes
-// lie in the scanner's record, one plain record for the kinds of every type, and what the stages are is each kind's own affair.
+// What a request has noted of its reads; `stage` tells how far it has come, 0 at the start. It is a number, since the notes are to
+// lie in the scanner's record, which is the same type for all kinds, and each kind has stages of its own.
 #[derive(Clone, Copy, PartialEq, Eq, Debug)]
 pub struct Notes {
     pub stage: u32,

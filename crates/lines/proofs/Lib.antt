@@ -1,4 +1,2 @@
 pub mod Front
-pub mod LastDigit
-pub mod Powers
 pub mod Words

@@ -15,3 +15,11 @@ impl Printed for &[u8] {
         Ok(self.len())
     }
 }
+
+impl<const N: usize> Printed for &[u8; N] {
+    ghost bytes = { λ text. text.now };
+
+    fn put_at_front(self, out: &mut [u8]) -> Result<usize, Refusal> {
+        self.as_slice().put_at_front(out)
+    }
+}

@@ -1,5 +1,6 @@
 -- What a step reads of the tables. A place that is not taken holds nothing: whoever names it is torn.
 use Rattle.std.specs.Prelude.{ℕ, ◌-◌, Bool, cond, ◌&&◌, List, length, Some, None, Ok, Err, Option, Result, nat_le, nat_lt, slice_index, slice_index_or}
+pub use Rattle.refusals.specs.Answered.{on_ok}
 use Rattle.refusals.specs.declared.refusal.Refusal.{Refusal}
 use Rattle.refusals.specs.declared.refusal.Refusal.TheVariants.{Torn}
 use Rattle.records.specs.declared.entries.Node.{Node}
@@ -10,11 +11,6 @@ use Rattle.memory.specs.Addresses.{addressed}
 use Rattle.memory.specs.Places.{is_taken}
 use Rattle.memory.specs.Seen.{Seen}
 use Rattle.records.specs.Tables.{zero_node, zero_descriptor}
-
--- go on with what was found, or stop at the refusal
-abbrev pub on_ok : {A B E : Type 0} → Result A E → (A → Result B E) → Result B E
-on_ok (Ok a) k = k a
-on_ok (Err e) k = Err e
 
 abbrev pub node_at : Seen → ℕ → Result Node Refusal
 node_at m n = cond (is_taken (length m.nodes) m.nodes_taken n) (Ok (slice_index_or m.nodes (n - 1) zero_node)) (Err Torn)

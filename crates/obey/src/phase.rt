@@ -10,7 +10,7 @@ pub enum Phase {
     Running(Running<Kinds>),
 }
 
-// What an accepted order answers: one answer for each order, so the one without a number is no `None`.
+// What an accepted order answers. `Started` is an answer of its own and not a missing tray number, so this is no `Option<u32>`.
 #[derive(Clone, Copy, PartialEq, Eq, Debug)]
 pub enum Reply {
     // the number of the tray that was laid

@@ -2,7 +2,7 @@
 use Rattle.std.proofs.Common.{◌≡◌, ℕ, suc, ◌+◌, ◌-◌, ◌<◌, List, [], ◌∷◌, ◌++◌, length, take, set, Ok, Err, Result, refl, ap, ◌∙◌, append_assoc, arith}
 use Rattle.std.proofs.lemmas.List.{take_more_set}
 use Rattle.refusals.specs.declared.refusal.Refusal.{Refusal}
-use Rattle.orders.specs.Answered.{on_ok}
+use Rattle.refusals.specs.Answered.{on_ok}
 use Rattle.orders.specs.Numbers.{number_of, numbers_of}
 
 -- the numbers in front, and those that are read after them

@@ -7,7 +7,7 @@ use Rattle.std.specs.List.{flat_map, AllByRecursion}
 use Rattle.std.specs.Str.{all_ascii_digits}
 use Rattle.refusals.specs.declared.refusal.Refusal.{Refusal}
 use Rattle.refusals.specs.declared.refusal.Refusal.TheVariants.{Wording}
-use Rattle.orders.specs.Answered.{on_ok}
+use Rattle.refusals.specs.Answered.{on_ok}
 use Rattle.orders.specs.Numbers.{digits_of, decimal_of, number_of, numbers_of}
 use Rattle.orders.specs.Spelled.{word_of}
 use Rattle.orders.proofs.DigitLaws.{read_on, own, Stops, Fronted, digits_complete, digits_sound}

@@ -7,7 +7,7 @@ use Rattle.refusals.specs.declared.refusal.Refusal.{Refusal}
 use Rattle.refusals.specs.declared.refusal.Refusal.TheVariants.{Wording}
 use Rattle.orders.specs.declared.order.Order.{Order}
 use Rattle.orders.specs.declared.order.Order.TheVariants.{LayQueue, LayStack, Start}
-use Rattle.orders.specs.Answered.{on_ok}
+use Rattle.refusals.specs.Answered.{on_ok}
 use Rattle.orders.specs.Numbers.{numbers_of}
 use Rattle.orders.specs.Orders.{by_letter, order_of}
 use Rattle.orders.specs.Spelled.{letter_of, numbers_in, word_of, spelled, Small, Says, Understood}

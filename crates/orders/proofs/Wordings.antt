@@ -3,7 +3,7 @@ use Rattle.std.proofs.Common.{◌≡◌, ℕ, zero, suc, ◌+◌, ◌-◌, ◌*�
 use Rattle.std.specs.Char.{is_ascii_digit}
 use Rattle.refusals.specs.declared.refusal.Refusal.{Refusal}
 use Rattle.refusals.specs.declared.refusal.Refusal.TheVariants.{Wording}
-use Rattle.orders.specs.Answered.{on_ok}
+use Rattle.refusals.specs.Answered.{on_ok}
 use Rattle.orders.specs.Numbers.{with_digit, digits_of, decimal_of, number_of, numbers_of}
 
 abbrev pub ByWording : {X : Type 0} → Result X Refusal → Type 0

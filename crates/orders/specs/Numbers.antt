@@ -4,7 +4,7 @@ use Rattle.std.specs.Borrow.{Bor}
 use Rattle.std.specs.Char.{is_ascii_digit}
 use Rattle.refusals.specs.declared.refusal.Refusal.{Refusal}
 use Rattle.refusals.specs.declared.refusal.Refusal.TheVariants.{Wording}
-use Rattle.orders.specs.Answered.{on_ok}
+use Rattle.refusals.specs.Answered.{on_ok}
 
 -- a number that was read, and the rest of the text
 abbrev pub with_rest : Result (ℕ × Bor (List ℕ)) Refusal → Result (ℕ × List ℕ) Refusal

@@ -12,7 +12,8 @@ fn first_feed(text: &[u8]) -> Option<usize>
     text.iter().position(|byte| *byte == LINE_FEED)
 }
 
-// The lines of a text that are left, one after the other.
+// The lines of a text that are left, one after the other. The library's `split` opens a further line behind a last line feed,
+// and one in an empty text; a session file must have neither.
 #[derive(Drop)]
 pub(crate) struct Lines<'a> {
     left: &'a [u8],

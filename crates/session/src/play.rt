@@ -91,7 +91,7 @@ fn play_on(
         Ok(layout) => layout,
         Err(cause) => return ended_by(0, cause, 0),
     };
-    let at = match put(out, 0, b"DAY\n".as_slice()) {
+    let at = match put(out, 0, b"DAY\n") {
         Ok(end) => end,
         Err(cause) => return ended_by(0, cause, 0),
     };
