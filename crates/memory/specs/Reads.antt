@@ -1,5 +1,5 @@
 -- What a step reads of the tables. A place that is not taken holds nothing: whoever names it is torn.
-use Rattle.std.specs.Prelude.{ℕ, ◌-◌, Bool, cond, ◌&&◌, List, length, Some, None, Ok, Err, Option, Result, nat_le, nat_lt, slice_index, slice_index_or}
+use Rattle.std.specs.Prelude.{ℕ, ◌-◌, cond, length, Some, None, Ok, Err, Option, Result, nat_lt, slice_index, slice_index_or}
 pub use Rattle.refusals.specs.Answered.{on_ok}
 use Rattle.refusals.specs.declared.refusal.Refusal.{Refusal}
 use Rattle.refusals.specs.declared.refusal.Refusal.TheVariants.{Torn}
@@ -12,6 +12,7 @@ use Rattle.memory.specs.Places.{is_taken}
 use Rattle.memory.specs.Seen.{Seen}
 use Rattle.records.specs.Tables.{zero_node, zero_descriptor}
 
+-- the entry at a place (`entry_at`), torn where there is none; spelled out, since the machine's bridge compares these by their tests
 abbrev pub node_at : Seen → ℕ → Result Node Refusal
 node_at m n = cond (is_taken (length m.nodes) m.nodes_taken n) (Ok (slice_index_or m.nodes (n - 1) zero_node)) (Err Torn)
 

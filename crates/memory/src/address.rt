@@ -18,9 +18,9 @@ pub enum Address {
 impl TryFrom<u32> for Address {
     type Error = Refusal;
 
-    fn try_from(number: u32) -> Result<Address, Refusal>
-        ensures { MatchResult result (λ a. addressed number ≡ Some a) (λ e. (e ≡ Torn) × (addressed number ≡ None)) }
-    {
+    ghost try_from_gives = { λ n r. MatchResult r (λ a. addressed n ≡ Some a) (λ e. (e ≡ Torn) × (addressed n ≡ None)) };
+
+    fn try_from(number: u32) -> Result<Address, Refusal> {
         match number {
             0..=63 => Ok(Address::TrayWord(number)),
             65..=4159 => Ok(Address::NextWord(number - 64)),

@@ -6,7 +6,8 @@ use crate::view::Memory;
 use records::entries::{Descriptor, Node};
 
 // The tray words, the nodes and the descriptors, with how many places of two of them are taken. The tables are lent whole, and
-// the counts are the board's own numbers: so a count stands beside a table.
+// the counts are the board's own numbers: so a count stands beside a table. It has no model, since a call has to ensure that it
+// leaves the very tables that it was lent (`SameTables`).
 #[derive(Drop)]
 pub struct MemoryMut<'a> {
     pub words: &'a mut [u32],

@@ -6,7 +6,8 @@ use crate::taken::Taken;
 use records::entries::{Descriptor, Node};
 use std::marker::Model;
 
-// The tray words, the nodes and the descriptors, as they are lent for reading.
+// The tray words, the nodes and the descriptors, as they are lent for reading. Its fields are read by its methods alone, and it is
+// lent on and not copied: a type with a model and a lifetime cannot be `Copy`.
 #[derive(Drop)]
 pub struct Memory<'a> {
     pub(crate) words: &'a [u32],

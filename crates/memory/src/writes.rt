@@ -6,7 +6,8 @@ use crate::address::Address;
 use records::entries::Node;
 use refusals::refusal::Refusal;
 
-// Writes the word at an address; a place that is not taken, and what is no address, is torn and changes nothing.
+// Writes the word at an address; a place that is not taken, and what is no address, is torn and changes nothing. It writes no
+// descriptor, and a caller may give another count than the board's: so it takes the two tables and no `MemoryMut`.
 pub fn write_word(
     words: &mut [u32],
     nodes: &mut [Node],

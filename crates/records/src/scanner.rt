@@ -10,7 +10,8 @@ pub enum Wish {
     Move { from: u32, to: u32 },
 }
 
-// What a look tells of a scanner's last request; `None` is the first of its five numbered states, and no want of a look. Worn: its move failed and no descriptor was left to try again.
+// What a look tells of a scanner's last request. `None` is the first of the five numbered states of a look, so the type is no Option.
+// Worn: its move failed and no descriptor was left to try again.
 #[derive(Clone, Copy, PartialEq, Eq, Debug)]
 pub enum Look {
     None,

@@ -23,8 +23,9 @@ pub fn decide(memory: &Memory<'_>, scanner: u32, at: Position) -> Result<Effect,
     access_at(memory, scanner, at)
 }
 
-// The access of a scanner at each position. Between two steps a position lies in a scanner's record, which is plain memory, so
-// it is an enum and no closure. Memory and descriptor stay two parameters of the accesses: contracts speak of each by itself.
+// The access of a scanner at each position. A caller keeps the position between two steps, as a plain value in fixed memory, so it
+// is an enum and no closure. Memory and descriptor stay two parameters of the accesses: a struct of the two would be no plainer,
+// since every definition takes them apart again.
 fn access_at(memory: &Memory<'_>, scanner: u32, at: Position) -> Result<Effect, Refusal>
     ensures { result ≡ access_at memory.now scanner at }
 {

@@ -1,4 +1,4 @@
--- Each position and each end in words, as bytes.
+-- Each position and each end in words, as bytes. A list of names is its own statement: no law stands above it.
 use Rattle.std.specs.Prelude.{ℕ, List, codes}
 use Rattle.swap_access.specs.declared.position.Position.{Position}
 use Rattle.swap_access.specs.declared.position.Position.TheVariants.{Publish, ReadResult, Clean, PlaceMark, ReRead, TryToFail, GiveBack, Decide, FinishFirst, FinishSecond, WriteSuccess, Withdraw}

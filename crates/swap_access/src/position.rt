@@ -65,7 +65,8 @@ pub enum Position {
         descriptor: u32,
         winner: u32,
     },
-    // p2: the scanner's own mark → o2, and then the end that was found
+    // p2: the scanner's own mark → o2, and then the end that was found: success or second failed. A flag, since an `End` could also be
+    // one of the two that do not come here.
     Withdraw {
         descriptor: u32,
         success: bool,

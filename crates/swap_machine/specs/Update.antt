@@ -1,4 +1,5 @@
--- Functions on numbers that differ in one place.
+-- Functions on numbers that differ in one place. History and the swap's machine define them alike, since neither crate is about the
+-- other or uses it.
 use Rattle.std.specs.Prelude.{ℕ, cond, eqb}
 
 -- f, but v at k

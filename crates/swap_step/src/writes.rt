@@ -1,7 +1,8 @@
 // The one write of an access.
 ghost use Rattle.std.specs.Prelude.{◌≡◌};
-ghost use Rattle.memory.specs.Lent.{SameTables};
-ghost use Rattle.swap_step.specs.Writes.{words_after, nodes_after, descriptors_after, results_with};
+ghost use Rattle.memory.specs.Lent.{seen_through, SameTables};
+ghost use Rattle.swap_step.specs.Steps.{written};
+ghost use Rattle.swap_step.specs.Writes.{results_with};
 ghost use Rattle.swap_step.specs.Laws.{held_by, Only};
 
 use memory::memory_mut::MemoryMut;
@@ -12,11 +13,7 @@ use words::told::LAST_PLACE;
 
 // Writes what an access writes; what stands in no table changes nothing.
 pub fn apply(write: Option<Write>, memory: &mut MemoryMut<'_>)
-    ensures words { memory.new.words.now ≡ words_after write memory.old.words.now }
-    ensures nodes { memory.new.nodes.now ≡ nodes_after write memory.old.nodes.now }
-    ensures nodes_taken { memory.new.nodes_taken ≡ memory.old.nodes_taken }
-    ensures descriptors { memory.new.descriptors.now ≡ descriptors_after write memory.old.descriptors.now }
-    ensures descriptors_taken { memory.new.descriptors_taken ≡ memory.old.descriptors_taken }
+    ensures tables { seen_through memory.new ≡ written write (seen_through memory.old) }
     ensures same { SameTables memory.old memory.new }
     ensures law { Only write (held_by memory.old) (held_by memory.new) }
 {
@@ -32,7 +29,8 @@ pub fn apply(write: Option<Write>, memory: &mut MemoryMut<'_>)
     }
 }
 
-// Writes the result of the descriptor at a place.
+// Writes the result of the descriptor at a place. A test and an index are plainer here than `get_mut`: its contract tells what
+// becomes of the slice by way of the reference that it lends.
 pub fn write_result(descriptors: &mut [Descriptor], place: u32, outcome: u32)
     ensures { descriptors.new ≡ results_with descriptors.old place outcome }
 {

@@ -1,12 +1,6 @@
 -- The waits double from the second on, and from the eighth on they stay.
-use Rattle.std.proofs.Common.{◌≡◌, ℕ, zero, suc, ◌+◌, ◌-◌, ◌*◌, ◌<◌, ◌≤◌, get_or, refl, ap, ◌∙◌, add-one, arith}
-use Rattle.std.proofs.lemmas.List.{get_or_default}
-use Rattle.waits.specs.Waits.{waits, turns_after, Doubling}
-
--- an entry of the list is the wait at that failed commit
-pub listed : (n : ℕ) → 1 ≤ n → n ≤ 8 → get_or waits (n - 1) 0 ≡ turns_after n
-listed zero lo hi = absurd (omega arith)
-listed (suc k) lo hi = let e : suc k - 1 ≡ k = omega arith in ap (λ i. get_or waits i 0) e ∙ get_or_default waits k 0 64 hi
+use Rattle.std.proofs.Common.{◌≡◌, ℕ, zero, suc, ◌+◌, ◌-◌, ◌*◌, ◌<◌, ◌≤◌, refl, ap, ◌∙◌, add-one, arith}
+use Rattle.waits.specs.Waits.{turns_after, Doubling}
 
 -- by how far behind the eighth
 stays_behind : (k : ℕ) → turns_after (8 + k) ≡ 64

@@ -12,9 +12,8 @@ pub fn turns(failed: u32) -> u32
     ensures listed { result ≡ turns_after failed }
     ensures doubling { Doubling turns_after }
 {
-    match failed {
-        0 => 0,
-        1..=8 => WAITS[(failed - 1) as usize],
-        _ => WAITS[7],
-    }
+    let Some(index) = failed.checked_sub(1) else {
+        return 0;
+    };
+    WAITS.get(index as usize).copied().unwrap_or(64)
 }

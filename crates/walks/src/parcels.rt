@@ -23,6 +23,7 @@ pub fn count_parcels(memory: &Memory<'_>, from: u32) -> Result<usize, Refusal>
     ensures { result ≡ counted (walked memory.now memory.now.nodes_taken from) }
 {
     let mut word = from;
+    // the number of the turn is the answer
     for count in 0..=memory.nodes_taken() as usize {
         match led_to(memory, word)? {
             Some(node) => word = node.next,

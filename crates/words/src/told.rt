@@ -24,14 +24,13 @@ fn is_place(place: u32) -> bool
     (1..=LAST_PLACE).contains(&place)
 }
 
-// What a number says as a word; a number that is no word's is torn.
+// What a number says as a word, which has that number; a number that no word has is torn.
 impl TryFrom<u32> for Word {
     type Error = Refusal;
 
-    fn try_from(number: u32) -> Result<Word, Refusal>
-        ensures value { MatchResult result (λ w. told number ≡ Some w) (λ e. (e ≡ Torn) × (told number ≡ None)) }
-        ensures law { MatchResult result (λ w. coded w ≡ Some number) (λ e. (w : Word) → coded w ≢ Some number) }
-    {
+    ghost try_from_gives = { λ n r. MatchResult r (λ w. (told n ≡ Some w) × (coded w ≡ Some n)) (λ e. (e ≡ Torn) × (told n ≡ None) × ((w : Word) → coded w ≢ Some n)) };
+
+    fn try_from(number: u32) -> Result<Word, Refusal> {
         match number {
             0 => Ok(Word::Nil),
             1..=4095 => Ok(Word::Node(number)),
@@ -45,14 +44,13 @@ impl TryFrom<u32> for Word {
     }
 }
 
-// A word's number; a word that names a place or a scanner that no word can name is torn.
+// A word's number, which is told as that word; a word that names a place or a scanner that no word can name is torn.
 impl TryFrom<Word> for u32 {
     type Error = Refusal;
 
-    fn try_from(word: Word) -> Result<u32, Refusal>
-        ensures value { MatchResult result (λ n. coded word ≡ Some n) (λ e. (e ≡ Torn) × (coded word ≡ None)) }
-        ensures law { MatchResult result (λ n. (told n ≡ Some word) × Proper word) (λ e. Proper word → ⊥) }
-    {
+    ghost try_from_gives = { λ w r. MatchResult r (λ n. (coded w ≡ Some n) × (told n ≡ Some w) × Proper w) (λ e. (e ≡ Torn) × (coded w ≡ None) × (Proper w → ⊥)) };
+
+    fn try_from(word: Word) -> Result<u32, Refusal> {
         match word {
             Word::Nil => Ok(0),
             Word::Node(place) if is_place(place) => Ok(place),

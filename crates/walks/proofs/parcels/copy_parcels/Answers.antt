@@ -1,8 +1,8 @@
-use Rattle.std.proofs.Common.{◌≡◌, ◌<◌, ◌≤◌, length, Ok, Err, sym, ap, ◌∙◌, arith}
+use Rattle.std.proofs.Common.{◌<◌, ◌≤◌, length, Ok, Err, sym, ap, ◌∙◌, arith}
 use Rattle.std.proofs.lemmas.List.{set-get_or}
 use Rattle.std.proofs.lemmas.Result.{err_from_is_err_and}
 use Rattle.walks.specs.Walked.{walked}
-use Rattle.walks.proofs.Copying.{copy_begins, copy_more, copy_ends, copy_full, copy_sure, copy_refused}
+use Rattle.walks.proofs.Copying.{copy_begins, copy_more, copy_ends, copy_sure, copy_refused}
 use Rattle.walks.proofs.parcels.copy_parcels.Goals as goal
 
 pub returns-in_err-count : goal.returns-in_err-count
