@@ -11,7 +11,8 @@ use refusals::refusal::Refusal;
 use std::marker::PhantomData;
 
 impl<K> Layout<K> {
-    // An empty board over these tables, which are set to zero; tables of other lengths are refused and left as they are.
+    // An empty board over these tables, which are set to zero; tables of other lengths are refused and left as they are. No other
+    // call writes all four tables, so they are no `LentTables` here.
     pub fn begin(
         words: &mut [u32],
         nodes: &mut [Node],

@@ -14,7 +14,8 @@ pub const TRAY_WORDS: usize = 64;
 
 pub const SCANNERS: usize = 16;
 
-// `kinds` has a digit of four bits for each tray: its kind number.
+// `kinds` has a digit of four bits for each tray: its kind number. It is one number and no array, since a refused start hands this
+// state back.
 #[derive(Drop)]
 pub struct Board {
     pub(crate) trays: u32,

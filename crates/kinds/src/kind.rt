@@ -13,6 +13,7 @@ pub struct Opening {
     pub second: u32,
 }
 
+// Kind number, tray, node and notes are what a kind may go by, each function by some of them: so they are no struct.
 pub trait TrayKind {
     // what the functions below answer, and what they mean, by kind number
     ghost plan: { ℕ → Plan };

@@ -3,7 +3,7 @@ use Rattle.std.specs.Prelude.{ℕ, List, [], ◌∷◌, ◌++◌, decimal}
 use Rattle.std.specs.List.{flat_map}
 use Rattle.lines.specs.declared.line.Line.{Line}
 
--- a number after the first one, with the space before it
+-- a number after the first one, with the space before it (as in orders, which reads; neither crate uses the other)
 abbrev pub word_of : ℕ → List ℕ
 word_of n = 32 ∷ decimal n
 

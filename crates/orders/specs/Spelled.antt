@@ -17,7 +17,7 @@ numbers_in LayQueue = []
 numbers_in LayStack = []
 numbers_in (Start crew) = crew ∷ []
 
--- a number, with the space before it
+-- a number, with the space before it (as in lines, which prints; neither crate uses the other)
 abbrev pub word_of : ℕ → List ℕ
 word_of n = 32 ∷ decimal n
 
