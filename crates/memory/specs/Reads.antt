@@ -8,8 +8,8 @@ use Rattle.records.specs.declared.entries.Descriptor.{Descriptor}
 use Rattle.memory.specs.declared.address.Address.{Address}
 use Rattle.memory.specs.declared.address.Address.TheVariants.{TrayWord, NextWord}
 use Rattle.memory.specs.Addresses.{addressed}
-use Rattle.memory.specs.Places.{is_taken}
-use Rattle.memory.specs.Seen.{Seen}
+pub use Rattle.memory.specs.Places.{is_taken}
+pub use Rattle.memory.specs.Seen.{Seen}
 use Rattle.records.specs.Tables.{zero_node, zero_descriptor}
 
 -- the entry at a place (`entry_at`), torn where there is none; spelled out, since the machine's bridge compares these by their tests

@@ -2,6 +2,7 @@
 ghost use Rattle.std.specs.Prelude.{◌≡◌, IfOk, Ok, Some, None, MatchResult};
 ghost use Rattle.refusals.specs.declared.refusal.Refusal.TheVariants.{Torn};
 ghost use Rattle.words.specs.Words.{told};
+ghost use Rattle.memory.specs.Lent.{seen_of};
 ghost use Rattle.memory.specs.Meaning.{outcome_of, first_word, second_word, meant, plain, stands_for, Plain};
 
 use crate::view::Memory;
@@ -69,8 +70,8 @@ fn second_word(scanner: u32, descriptor: &Descriptor, outcome: Outcome) -> u32
 impl Memory<'_> {
     // What a word stands for: nil or a taken node.
     pub fn stands_for(&self, word: u32) -> Result<u32, Refusal>
-        ensures value { result ≡ stands_for self.now word }
-        ensures plain { IfOk result (Plain self.now) }
+        ensures value { result ≡ stands_for (seen_of self.now) word }
+        ensures plain { IfOk result (Plain (seen_of self.now)) }
     {
         let meant = self.meant(word)?;
         self.plain(meant)
@@ -78,7 +79,7 @@ impl Memory<'_> {
 
     // What a word stands for, whatever that is.
     fn meant(&self, word: u32) -> Result<u32, Refusal>
-        ensures { result ≡ meant self.now word (told word) }
+        ensures { result ≡ meant (seen_of self.now) word (told word) }
     {
         Ok(match Word::try_from(word)? {
             Word::Nil | Word::Node(_) => word,
@@ -102,7 +103,7 @@ impl Memory<'_> {
 
     // The word itself, where it is nil or a taken node.
     pub fn plain(&self, word: u32) -> Result<u32, Refusal>
-        ensures { result ≡ plain self.now word }
+        ensures { result ≡ plain (seen_of self.now) word }
     {
         if word != 0 {
             self.node(word)?;

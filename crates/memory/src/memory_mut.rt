@@ -1,6 +1,6 @@
 // The shared words as a step writes them.
 ghost use Rattle.std.specs.Prelude.{◌≡◌};
-ghost use Rattle.memory.specs.Lent.{seen_through};
+ghost use Rattle.memory.specs.Lent.{seen_of, seen_through};
 
 use crate::view::Memory;
 use records::entries::{Descriptor, Node};
@@ -20,7 +20,7 @@ pub struct MemoryMut<'a> {
 impl MemoryMut<'_> {
     // The same words, lent for reading.
     pub fn read(&self) -> Memory<'_>
-        ensures { result ≡ seen_through self.now }
+        ensures { seen_of result ≡ seen_through self.now }
     {
         Memory::new(
             self.words,

@@ -1,27 +1,20 @@
 // The shared words as a step reads them.
 ghost use Rattle.std.specs.Prelude.{◌≡◌};
 ghost use Rattle.memory.specs.Seen.{seen};
+ghost use Rattle.memory.specs.Lent.{seen_of};
 
-use crate::taken::Taken;
 use records::entries::{Descriptor, Node};
-use std::marker::Model;
 
-// The tray words, the nodes and the descriptors, as they are lent for reading. Its fields are read by its methods alone, and it is
-// lent on and not copied: a type with a model and a lifetime cannot be `Copy`.
-#[derive(Drop)]
+// The tray words, the nodes and the descriptors, with how many places of two of them are taken. It is copied like the slices that
+// it holds; so it has no model, since a type with a model and a lifetime cannot be `Copy`. Clauses see its lists and counts by
+// `seen_of`.
+#[derive(Clone, Copy)]
 pub struct Memory<'a> {
-    pub(crate) words: &'a [u32],
-    pub(crate) nodes: Taken<'a, Node>,
-    pub(crate) descriptors: Taken<'a, Descriptor>,
-}
-
-// Contracts see the lists and the counts.
-impl<'a> Model for Memory<'a> {
-    ghost use Rattle.memory.specs.Seen.{Seen, seen};
-
-    ghost Value = { Seen };
-
-    ghost view = { λ m. seen m.words.now m.nodes.table.now m.nodes.taken m.descriptors.table.now m.descriptors.taken };
+    pub words: &'a [u32],
+    pub nodes: &'a [Node],
+    pub nodes_taken: u32,
+    pub descriptors: &'a [Descriptor],
+    pub descriptors_taken: u32,
 }
 
 impl<'a> Memory<'a> {
@@ -33,31 +26,28 @@ impl<'a> Memory<'a> {
         descriptors: &'a [Descriptor],
         descriptors_taken: u32,
     ) -> Memory<'a>
-        ensures { result ≡ seen words.now nodes.now nodes_taken descriptors.now descriptors_taken }
+        ensures { seen_of result ≡ seen words.now nodes.now nodes_taken descriptors.now descriptors_taken }
     {
         Memory {
             words,
-            nodes: Taken {
-                table: nodes,
-                taken: nodes_taken,
-            },
-            descriptors: Taken {
-                table: descriptors,
-                taken: descriptors_taken,
-            },
+            nodes,
+            nodes_taken,
+            descriptors,
+            descriptors_taken,
         }
     }
 
     // How many nodes are taken.
     pub fn nodes_taken(&self) -> u32
-        ensures { result ≡ self.now.nodes_taken }
+        ensures { result ≡ (seen_of self.now).nodes_taken }
     {
-        self.nodes.taken
+        self.nodes_taken
     }
+
     // How many descriptors are taken.
     pub fn descriptors_taken(&self) -> u32
-        ensures { result ≡ self.now.descriptors_taken }
+        ensures { result ≡ (seen_of self.now).descriptors_taken }
     {
-        self.descriptors.taken
+        self.descriptors_taken
     }
 }

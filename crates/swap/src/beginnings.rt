@@ -1,5 +1,6 @@
 // How a scanner comes into the swap of a descriptor: its owner publishes it, a helper reads its result.
 ghost use Rattle.std.specs.Prelude.{◌≡◌};
+ghost use Rattle.memory.specs.Lent.{seen_of};
 ghost use Rattle.swap.specs.Beginnings.{at_publish, at_read_result, at_clean};
 
 use memory::meaning::Outcome;
@@ -13,7 +14,7 @@ use words::word::Word;
 
 // p1: o1 → the descriptor.
 pub fn at_publish(memory: &Memory<'_>, descriptor: u32) -> Result<Effect, Refusal>
-    ensures { result ≡ at_publish memory.now descriptor }
+    ensures { result ≡ at_publish (seen_of memory.now) descriptor }
 {
     let swap = memory.descriptor(descriptor)?.first;
     install(
@@ -28,7 +29,7 @@ pub fn at_publish(memory: &Memory<'_>, descriptor: u32) -> Result<Effect, Refusa
 
 // Reads the result: what is decided and finished is only cleaned.
 pub fn at_read_result(memory: &Memory<'_>, descriptor: u32, met: Met) -> Result<Effect, Refusal>
-    ensures { result ≡ at_read_result memory.now descriptor met }
+    ensures { result ≡ at_read_result (seen_of memory.now) descriptor met }
 {
     let next = match outcome_at(memory, descriptor)? {
         Outcome::Success | Outcome::SecondFailed => Position::Clean { descriptor, met },
@@ -39,7 +40,7 @@ pub fn at_read_result(memory: &Memory<'_>, descriptor: u32, met: Met) -> Result<
 
 // p2: the mark that was met → o2, or p1: the descriptor → o1.
 pub fn at_clean(memory: &Memory<'_>, descriptor: u32, met: Met) -> Result<Effect, Refusal>
-    ensures { result ≡ at_clean memory.now descriptor met }
+    ensures { result ≡ at_clean (seen_of memory.now) descriptor met }
 {
     let swaps = memory.descriptor(descriptor)?;
     let (swap, word) = match met {

@@ -1,5 +1,6 @@
 // What the next access of a scanner does, found from what stands in the tables: nothing is written.
 ghost use Rattle.std.specs.Prelude.{◌≡◌};
+ghost use Rattle.memory.specs.Lent.{seen_of};
 ghost use Rattle.swap.specs.Dispatch.{decided, access_at};
 
 use crate::beginnings::{at_clean, at_publish, at_read_result};
@@ -15,7 +16,7 @@ use words::told::LAST_SCANNER;
 // The access of a scanner that stands at a position; a scanner that can have no mark is torn.
 #[tactic(auto, unfolding(crate::specs::Dispatch::decided))]
 pub fn decide(memory: &Memory<'_>, scanner: u32, at: Position) -> Result<Effect, Refusal>
-    ensures { result ≡ decided memory.now scanner at }
+    ensures { result ≡ decided (seen_of memory.now) scanner at }
 {
     if scanner > LAST_SCANNER {
         return Err(Refusal::Torn);
@@ -27,7 +28,7 @@ pub fn decide(memory: &Memory<'_>, scanner: u32, at: Position) -> Result<Effect,
 // is an enum and no closure. Memory and descriptor stay two parameters of the accesses: a struct of the two would be no plainer,
 // since every definition takes them apart again.
 fn access_at(memory: &Memory<'_>, scanner: u32, at: Position) -> Result<Effect, Refusal>
-    ensures { result ≡ access_at memory.now scanner at }
+    ensures { result ≡ access_at (seen_of memory.now) scanner at }
 {
     match at {
         Position::Publish { descriptor } => at_publish(memory, descriptor),

@@ -1,5 +1,6 @@
 // How the swap of a descriptor ends once it is decided: both addresses get a plain word again.
 ghost use Rattle.std.specs.Prelude.{◌≡◌};
+ghost use Rattle.memory.specs.Lent.{seen_of};
 ghost use Rattle.swap.specs.Ends.{after_decision, at_give_back, at_finish_first, at_finish_second};
 
 use memory::view::Memory;
@@ -25,7 +26,7 @@ pub fn after_decision(descriptor: u32, placed: bool, success: bool) -> Next
 
 // p1: the descriptor → o1.
 pub fn at_give_back(memory: &Memory<'_>, descriptor: u32) -> Result<Effect, Refusal>
-    ensures { result ≡ at_give_back memory.now descriptor }
+    ensures { result ≡ at_give_back (seen_of memory.now) descriptor }
 {
     let swaps = memory.descriptor(descriptor)?;
     let word = Word::Descriptor(descriptor);
@@ -40,7 +41,7 @@ pub fn at_give_back(memory: &Memory<'_>, descriptor: u32) -> Result<Effect, Refu
 
 // p1: the descriptor → n1.
 pub fn at_finish_first(memory: &Memory<'_>, descriptor: u32, winner: u32) -> Result<Effect, Refusal>
-    ensures { result ≡ at_finish_first memory.now descriptor winner }
+    ensures { result ≡ at_finish_first (seen_of memory.now) descriptor winner }
 {
     let swap = memory.descriptor(descriptor)?.first;
     let word = Word::Descriptor(descriptor);
@@ -54,7 +55,7 @@ pub fn at_finish_second(
     descriptor: u32,
     winner: u32,
 ) -> Result<Effect, Refusal>
-    ensures { result ≡ at_finish_second memory.now descriptor winner }
+    ensures { result ≡ at_finish_second (seen_of memory.now) descriptor winner }
 {
     let swap = memory.descriptor(descriptor)?.second;
     let mark = Word::Mark {

@@ -1,5 +1,6 @@
 // Marks at the second address.
 ghost use Rattle.std.specs.Prelude.{◌≡◌};
+ghost use Rattle.memory.specs.Lent.{seen_of};
 ghost use Rattle.swap.specs.Marks.{at_place_mark, at_re_read, at_withdraw};
 
 use memory::view::Memory;
@@ -12,7 +13,7 @@ use words::word::Word;
 
 // p2: o2 → the scanner's own mark.
 pub fn at_place_mark(memory: &Memory<'_>, scanner: u32, descriptor: u32) -> Result<Effect, Refusal>
-    ensures { result ≡ at_place_mark memory.now scanner descriptor }
+    ensures { result ≡ at_place_mark (seen_of memory.now) scanner descriptor }
 {
     let swap = memory.descriptor(descriptor)?.second;
     install(
@@ -34,7 +35,7 @@ pub fn at_place_mark(memory: &Memory<'_>, scanner: u32, descriptor: u32) -> Resu
 
 // Reads p2: a mark of the descriptor, by whichever scanner, is the one to decide with.
 pub fn at_re_read(memory: &Memory<'_>, descriptor: u32) -> Result<Effect, Refusal>
-    ensures { result ≡ at_re_read memory.now descriptor }
+    ensures { result ≡ at_re_read (seen_of memory.now) descriptor }
 {
     let address = memory.descriptor(descriptor)?.second.address;
     let next = match Word::try_from(found_at(memory, address)?) {
@@ -60,7 +61,7 @@ pub fn at_withdraw(
     descriptor: u32,
     success: bool,
 ) -> Result<Effect, Refusal>
-    ensures { result ≡ at_withdraw memory.now scanner descriptor success }
+    ensures { result ≡ at_withdraw (seen_of memory.now) scanner descriptor success }
 {
     let swap = memory.descriptor(descriptor)?.second;
     let mark = Word::Mark {

@@ -1,5 +1,6 @@
 // The result of a descriptor: swapped once from undecided, and written once more after success.
 ghost use Rattle.std.specs.Prelude.{◌≡◌};
+ghost use Rattle.memory.specs.Lent.{seen_of};
 ghost use Rattle.swap.specs.Results.{at_try_to_fail, at_decide, at_write_success};
 
 use crate::ends::after_decision;
@@ -13,7 +14,7 @@ use words::word::Word;
 
 // result: undecided → second failed.
 pub fn at_try_to_fail(memory: &Memory<'_>, descriptor: u32) -> Result<Effect, Refusal>
-    ensures { result ≡ at_try_to_fail memory.now descriptor }
+    ensures { result ≡ at_try_to_fail (seen_of memory.now) descriptor }
 {
     let give_back = Next::At(Position::GiveBack { descriptor });
     Ok(match outcome_at(memory, descriptor)? {
@@ -40,7 +41,7 @@ pub fn at_decide(
     mark: u32,
     placed: bool,
 ) -> Result<Effect, Refusal>
-    ensures { result ≡ at_decide memory.now descriptor mark placed }
+    ensures { result ≡ at_decide (seen_of memory.now) descriptor mark placed }
 {
     let result = u32::try_from(Word::Mark {
         scanner: mark,
@@ -65,7 +66,7 @@ pub fn at_decide(
 
 // result: success.
 pub fn at_write_success(memory: &Memory<'_>, descriptor: u32) -> Result<Effect, Refusal>
-    ensures { result ≡ at_write_success memory.now descriptor }
+    ensures { result ≡ at_write_success (seen_of memory.now) descriptor }
 {
     memory.descriptor(descriptor)?;
     Ok(Effect {

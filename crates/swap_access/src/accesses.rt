@@ -1,5 +1,6 @@
 // The swaps of one word.
 ghost use Rattle.std.specs.Prelude.{◌≡◌};
+ghost use Rattle.memory.specs.Lent.{seen_of};
 ghost use Rattle.swap_access.specs.Accesses.{swap_word, install, remove};
 
 use crate::effect::{Effect, Write, write_nothing};
@@ -18,7 +19,7 @@ pub fn swap_word(
     done: Next,
     failed: Next,
 ) -> Result<Effect, Refusal>
-    ensures { result ≡ swap_word memory.now swap.address swap.old swap.new done failed }
+    ensures { result ≡ swap_word (seen_of memory.now) swap.address swap.old swap.new done failed }
 {
     let Swap { address, old, new } = swap;
     if found_at(memory, address)? != old {
@@ -40,7 +41,7 @@ pub fn install(
     done: Next,
     failed: Next,
 ) -> Result<Effect, Refusal>
-    ensures { result ≡ install memory.now address old new done failed }
+    ensures { result ≡ install (seen_of memory.now) address old new done failed }
 {
     let old = memory.plain(old)?;
     let new = u32::try_from(new)?;
@@ -57,7 +58,7 @@ pub fn remove(
     new: u32,
     next: Next,
 ) -> Result<Effect, Refusal>
-    ensures { result ≡ remove memory.now address old new next }
+    ensures { result ≡ remove (seen_of memory.now) address old new next }
 {
     let old = u32::try_from(old)?;
     let new = memory.plain(new)?;

@@ -1,5 +1,6 @@
 // What an access finds. What has no valid form, or names a place not taken, is torn.
 ghost use Rattle.std.specs.Prelude.{◌≡◌};
+ghost use Rattle.memory.specs.Lent.{seen_of};
 ghost use Rattle.swap_access.specs.Found.{found_at, outcome_at};
 
 use memory::meaning::Outcome;
@@ -10,7 +11,7 @@ use words::word::Word;
 // The number of the word at an address.
 #[tactic(auto, unfolding(crate::specs::Found::found_at))]
 pub fn found_at(memory: &Memory<'_>, address: u32) -> Result<u32, Refusal>
-    ensures { result ≡ found_at memory.now address }
+    ensures { result ≡ found_at (seen_of memory.now) address }
 {
     let number = memory.word_at(address)?;
     match Word::try_from(number)? {
@@ -32,7 +33,7 @@ pub fn found_at(memory: &Memory<'_>, address: u32) -> Result<u32, Refusal>
 // What the result of a descriptor says.
 #[tactic(auto, unfolding(crate::specs::Found::outcome_at))]
 pub fn outcome_at(memory: &Memory<'_>, descriptor: u32) -> Result<Outcome, Refusal>
-    ensures { result ≡ outcome_at memory.now descriptor }
+    ensures { result ≡ outcome_at (seen_of memory.now) descriptor }
 {
     let result = memory.descriptor(descriptor)?.result;
     Outcome::tell(descriptor, result)

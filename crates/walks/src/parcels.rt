@@ -1,6 +1,7 @@
 // A walk along next words, by what the words stand for. It goes through at most as many nodes as are taken, since a
 // longer one comes to some node twice and would never end.
 ghost use Rattle.std.specs.Prelude.{◌≡◌};
+ghost use Rattle.memory.specs.Lent.{seen_of};
 ghost use Rattle.walks.specs.Walked.{led_to, counted, walked, laid};
 
 use memory::view::Memory;
@@ -9,7 +10,7 @@ use refusals::refusal::Refusal;
 
 // The node to which a word leads: none from nil.
 fn led_to(memory: &Memory<'_>, word: u32) -> Result<Option<Node>, Refusal>
-    ensures { result ≡ led_to memory.now word }
+    ensures { result ≡ led_to (seen_of memory.now) word }
 {
     let place = memory.stands_for(word)?;
     if place == 0 {
@@ -20,7 +21,7 @@ fn led_to(memory: &Memory<'_>, word: u32) -> Result<Option<Node>, Refusal>
 
 // How many parcels lie along next words from a word on.
 pub fn count_parcels(memory: &Memory<'_>, from: u32) -> Result<usize, Refusal>
-    ensures { result ≡ counted (walked memory.now memory.now.nodes_taken from) }
+    ensures { result ≡ counted (walked (seen_of memory.now) memory.now.nodes_taken from) }
 {
     let mut word = from;
     // the number of the turn is the answer
@@ -36,8 +37,8 @@ pub fn count_parcels(memory: &Memory<'_>, from: u32) -> Result<usize, Refusal>
 // Writes them into `parcels` from its front on, as many as it has room for; answers how many there are. The count comes
 // first, so that a walk that is torn writes nothing.
 pub fn copy_parcels(memory: &Memory<'_>, from: u32, parcels: &mut [u32]) -> Result<usize, Refusal>
-    ensures answer { result ≡ counted (walked memory.now memory.now.nodes_taken from) }
-    ensures after { parcels.new ≡ laid (walked memory.now memory.now.nodes_taken from) parcels.old }
+    ensures answer { result ≡ counted (walked (seen_of memory.now) memory.now.nodes_taken from) }
+    ensures after { parcels.new ≡ laid (walked (seen_of memory.now) memory.now.nodes_taken from) parcels.old }
 {
     let count = count_parcels(memory, from)?;
     let mut word = from;

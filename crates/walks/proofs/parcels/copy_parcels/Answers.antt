@@ -1,6 +1,7 @@
 use Rattle.std.proofs.Common.{◌<◌, ◌≤◌, length, Ok, Err, sym, ap, ◌∙◌, arith}
 use Rattle.std.proofs.lemmas.List.{set-get_or}
 use Rattle.std.proofs.lemmas.Result.{err_from_is_err_and}
+use Rattle.memory.specs.Lent.{seen_of}
 use Rattle.walks.specs.Walked.{walked}
 use Rattle.walks.proofs.Copying.{copy_begins, copy_more, copy_ends, copy_sure, copy_refused}
 use Rattle.walks.proofs.parcels.copy_parcels.Goals as goal
@@ -10,11 +11,11 @@ returns-in_err-count c =
     let error = err_from_is_err_and c.from_residual.result c.from_residual.ensures.1 in
     record {
       answer = error.1 ∙ ap Err error.2 ∙ c.in_err-count.ensures;
-      after = copy_refused (walked c.args.memory.now c.args.memory.now.nodes_taken c.args.from) _ c.args.parcels.now c.in_err-count.ensures;
+      after = copy_refused (walked (seen_of c.args.memory.now) c.args.memory.now.nodes_taken c.args.from) _ c.args.parcels.now c.in_err-count.ensures;
     }
 
 pub loop-parcel-init : goal.loop-parcel-init
-loop-parcel-init c = copy_begins c.args.memory.now c.args.memory.now.nodes_taken c.args.from c.in_ok-count.count c.args.parcels.now c.in_ok-count.ensures
+loop-parcel-init c = copy_begins (seen_of c.args.memory.now) c.args.memory.now.nodes_taken c.args.from c.in_ok-count.count c.args.parcels.now c.in_ok-count.ensures
 
 pub loop-parcel-preserved : goal.loop-parcel-preserved
 loop-parcel-preserved c =
