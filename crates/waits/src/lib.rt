@@ -15,5 +15,5 @@ pub fn turns(failed: u32) -> u32
     let Some(index) = failed.checked_sub(1) else {
         return 0;
     };
-    WAITS.get(index as usize).copied().unwrap_or(64)
+    WAITS.get(index as usize).copied().unwrap_or(WAITS[7])
 }
