@@ -5,9 +5,9 @@ ghost use Rattle.memory.specs.Lent.{seen_of};
 
 use records::entries::{Descriptor, Node};
 
-// The tray words, the nodes and the descriptors, with how many places of two of them are taken. It is copied like the slices that
-// it holds; so it has no model, since a type with a model and a lifetime cannot be `Copy`. Clauses see its lists and counts by
-// `seen_of`.
+// The tray words, the nodes and the descriptors, with how many places of two of them are taken: the counts are the board's own
+// numbers, so each stands beside its table. It is copied like the slices that it holds; so it has no model, since a type with a
+// model and a lifetime cannot be `Copy`. Clauses see its lists and counts by `seen_of`.
 #[derive(Clone, Copy)]
 pub struct Memory<'a> {
     pub words: &'a [u32],
